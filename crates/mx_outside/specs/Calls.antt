@@ -1,6 +1,8 @@
 -- Which calls of an object in memory fail: those whose numbers, from 0, were listed.
-use Rattle.std.specs.Prelude.{ℕ, ◌+◌, ◌-◌, ◌^◌, Bool, min, List, ◌==◌, if◌then◌else◌, length}
+use Rattle.std.specs.Prelude.{ℕ, ◌+◌, ◌-◌, ◌^◌, Bool, true, false, min, List, ◌==◌, if◌then◌else◌, length}
 use Rattle.std.specs.List.{list_any}
+use Rattle.mx_outside.specs.declared.sink.Put.{Put}
+use Rattle.mx_outside.specs.declared.sink.Put.TheVariants as put
 use Rattle.mx_outside.specs.declared.source.Took.{Took}
 use Rattle.mx_outside.specs.declared.source.Took.TheVariants as took
 
@@ -22,6 +24,11 @@ is_failing plan = list_any (λ call. call == plan.next) plan.failing
 abbrev pub counted : ℕ → ℕ
 counted n = min (n + 1) (2 ^ 64 - 1)
 
+-- what a call leaves, by whether it failed
+abbrev pub called : Bool → Plan → Plan
+called false plan = record plan { next = counted plan.next }
+called true plan = record plan { next = counted plan.next; faults = counted plan.faults }
+
 -- what a source in memory holds: the bytes left, and the greatest number that one take gives
 pub record Feed : Type 0 where
   pub left : List ℕ
@@ -39,3 +46,7 @@ taken feed room =
 pub record Kept : Type 0 where
   pub written : List ℕ
   pub plan : Plan
+
+abbrev pub has_failed : Put → Bool
+has_failed put.Done = false
+has_failed put.Failed = true

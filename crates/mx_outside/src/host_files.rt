@@ -7,6 +7,7 @@ use crate::file_set::{FileFault, Files};
 use std::alloc::Global;
 use std::fs;
 use std::io::Read;
+use std::marker::Model;
 use std::rt;
 
 /// How many bytes one read asks for, at most.
@@ -19,11 +20,18 @@ pub struct HostFiles<R> {
     faults: u64,
 }
 
+impl<R> Model for HostFiles<R> {
+    ghost use Rattle.std.specs.Prelude.{ℕ};
+
+    ghost Value = { R × ℕ };
+
+    ghost view = { λ s. (s.rt, s.faults) };
+}
+
 impl<R: rt::Files> HostFiles<R> {
-    /// The files that `rt` gives.
+    /// The files that `rt` gives, without a fault so far.
     pub fn new(rt: R) -> HostFiles<R>
-        ensures rt { result.rt ≡ rt }
-        ensures faults { result.faults ≡ 0 }
+        ensures { result ≡ (rt, 0) }
     {
         HostFiles { rt, faults: 0 }
     }
@@ -32,7 +40,7 @@ impl<R: rt::Files> HostFiles<R> {
 impl<R: rt::Files> Files for HostFiles<R> {
     ghost told = { λ _ _. None };
 
-    ghost faults = { λ s. s.faults };
+    ghost faults = { λ s. s.1 };
 
     fn read(&mut self, alloc: Global, name: &str, most: usize) -> Result<Vec<u8>, FileFault> {
         let result = match fs::open(&self.rt, name) {

@@ -1,7 +1,7 @@
 //! Files in memory.
 ghost use Rattle.std.specs.Prelude.{◌≡◌, ◌≤◌, ◌↔◌, List, ℕ, length, true, IfOk, IsErrOf};
 ghost use Rattle.std.specs.Option.{option_map};
-ghost use Rattle.mx_outside.specs.Calls.{fresh};
+ghost use Rattle.mx_outside.specs.Calls.{called, fresh};
 ghost use Rattle.mx_outside.specs.Causes.{Rose};
 ghost use Rattle.mx_outside.specs.Named.{bytes_of, is_refused};
 ghost use Rattle.mx_outside.specs.Moves.{Holds, IsLonger};
@@ -53,6 +53,7 @@ impl Files for MemFiles {
         ensures count { self.old.plan.faults ≤ self.new.plan.faults }
         ensures cause { IsErrOf result FileFault.Failed → Rose self.old.plan.faults self.new.plan.faults }
         ensures kept { (each : List ℕ) → bytes_of each self.new.files ≡ bytes_of each self.old.files }
+        ensures plan { self.new.plan ≡ called (is_refused self.old name.now) self.old.plan }
         ensures refused { IsErrOf result FileFault.Failed ↔ (is_refused self.old name.now ≡ true) }
     {
         if self.calls.begin() {

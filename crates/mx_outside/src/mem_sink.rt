@@ -2,7 +2,7 @@
 ghost use Rattle.std.specs.Prelude.{◌≡◌, ◌≤◌, [], true, Some};
 ghost use Rattle.mx_outside.specs.Causes.{Rose};
 ghost use Rattle.mx_outside.specs.Moves.{Adds};
-ghost use Rattle.mx_outside.specs.Calls.{Kept, fresh, is_failing};
+ghost use Rattle.mx_outside.specs.Calls.{Kept, called, fresh, has_failed, is_failing};
 
 use crate::calls::Calls;
 use crate::sink::{Put, Sink};
@@ -51,6 +51,7 @@ impl Sink for MemSink {
         ensures bytes { Adds (Some self.old.written) (Some self.new.written) result bytes.now }
         ensures count { self.old.plan.faults ≤ self.new.plan.faults }
         ensures cause { result ≡ Put.Failed → Rose self.old.plan.faults self.new.plan.faults }
+        ensures plan { self.new.plan ≡ called (has_failed result) self.old.plan }
         ensures listed { is_failing self.old.plan ≡ true → result ≡ Put.Failed }
         ensures none { result ≡ Put.Failed → self.new.written ≡ self.old.written }
     {

@@ -2,7 +2,7 @@
 ghost use Rattle.std.specs.Prelude.{◌≡◌, ◌<◌, ◌≤◌, drop, take, length, vec_len, Some};
 ghost use Rattle.mx_outside.specs.Causes.{Rose};
 ghost use Rattle.mx_outside.specs.Moves.{FitsRoom, Moves};
-ghost use Rattle.mx_outside.specs.Calls.{Feed, fresh, taken};
+ghost use Rattle.mx_outside.specs.Calls.{Feed, called, fresh, is_failing, taken};
 
 use crate::calls::Calls;
 use crate::source::{Source, Took};
@@ -53,6 +53,8 @@ impl Source for MemSource {
         ensures bytes { Moves (Some self.old.left) (Some self.new.left) result into.new }
         ensures count { self.old.plan.faults ≤ self.new.plan.faults }
         ensures cause { result ≡ Took.Failed → Rose self.old.plan.faults self.new.plan.faults }
+        ensures plan { self.new.plan ≡ called (is_failing self.old.plan) self.old.plan }
+        ensures piece { self.new.piece ≡ self.old.piece }
     {
         if self.calls.begin() {
             self.calls.fault();
