@@ -5,10 +5,9 @@ ghost use Rattle.mx_outside.specs.Moves.{Holds, IsLonger};
 
 use crate::file_set::{FileFault, Files};
 use std::alloc::Global;
-use std::fs;
 use std::io::Read;
 use std::marker::Model;
-use std::rt;
+use std::{fs, rt};
 
 /// How many bytes one read asks for, at most.
 const PIECE: usize = 4096;

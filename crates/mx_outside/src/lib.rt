@@ -27,3 +27,6 @@ pub use mem_source::MemSource;
 pub use sink::{Put, Sink};
 pub use source::{Source, Took};
 pub use streams::{Reading, StdErr, StdIn, StdOut, Writing};
+
+#[cfg(test)]
+mod tests;

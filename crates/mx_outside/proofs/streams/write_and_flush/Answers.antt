@@ -10,5 +10,5 @@ writes-preserved g c = record {
   added = appends_more (g.W.Write.contents c.args.writer.now) (g.W.Write.contents c.writes.writer) (g.W.Write.contents c.write.new.self)
       c.args.bytes.now c.writes.done c.in-Ok.count c.writes.invariant.added
       (subst (λ rest. Appends (g.W.Write.contents c.writes.writer) (g.W.Write.contents c.write.new.self) (take c.in-Ok.count rest))
-        (take_rest c.args.bytes.now c.writes.done) c.in-Ok.ensures.bytes);
+      (take_rest c.args.bytes.now c.writes.done) c.in-Ok.ensures.bytes);
 }
