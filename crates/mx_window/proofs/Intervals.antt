@@ -1,5 +1,5 @@
 -- Windows of an ascending list: split in two, one within another.
-use Rattle.std.proofs.Common.{◌≡◌, ℕ, ◌<◌, ◌≤◌, Bool, true, false, cond, ◌&&◌, nat_lt, nat_le, List, [], ◌∷◌, ◌++◌, filter, refl, ap, ap₂, ◌∙◌, inl, inr, arith, ltb-true, leb-true, lt-ltb, le-leb}
+use Rattle.std.proofs.Common.{◌≡◌, ℕ, zero, suc, ◌+◌, ◌-◌, ◌<◌, ◌≤◌, Bool, true, false, cond, not, ◌&&◌, ◌||◌, nat_lt, nat_le, ltb, leb, ◌⊎◌, List, [], ◌∷◌, ◌++◌, map, length, drop, Option, Some, None, is_some, option_map, filter, refl, ap, ap₂, sym, ◌∙◌, subst, inl, inr, arith, append_assoc, append-nil, ltb-true, ltb-false, leb-true, leb-false, lt-ltb, le-ltb, le-leb, length-append, le_refl, le_trans}
 use Rattle.std.proofs.lemmas.Bool.{cases_Bool, and_parts, and_from, cases_lt}
 use Rattle.std.proofs.lemmas.Bool.Decides.{nat_tests}
 use Rattle.std.specs.List.{AllByRecursion}
@@ -82,3 +82,8 @@ Ascends-between at base low high (e ∷ es) up =
       | inl a ↦ rw a (ltb-true low (at e) (and_parts (nat_lt low (at e)) (nat_le (at e) high) a).0, Ascends-filter at (at e) (λ f. nat_lt low (at f) && nat_le (at f) high) es up.1)
       | inr a ↦ rw a (Ascends-between at (at e) low high es up.1)
     ]
+
+-- a map that keeps positions keeps their order
+pub Ascends-map : {E F : Type 0} (at : E → ℕ) (at' : F → ℕ) (f : E → F) → ((e : E) → at' (f e) ≡ at e) → (low : ℕ) (es : List E) → Ascends at low es → Ascends at' low (map f es)
+Ascends-map at at' f h low [] up = tt
+Ascends-map at at' f h low (e ∷ es) up = (subst (λ x. low < x) (sym (h e)) up.0, subst (λ x. Ascends at' x (map f es)) (sym (h e)) (Ascends-map at at' f h (at e) es up.1))

@@ -1,5 +1,5 @@
 -- The last item that passes a test, in joined lists and in filters.
-use Rattle.std.proofs.Common.{◌≡◌, ℕ, ◌≤◌, Bool, true, false, cond, ◌||◌, List, [], ◌∷◌, ◌++◌, Option, Some, None, is_some, filter, refl, ap, ap₂, sym, ◌∙◌, subst, inl, inr}
+use Rattle.std.proofs.Common.{◌≡◌, ℕ, zero, suc, ◌+◌, ◌-◌, ◌<◌, ◌≤◌, Bool, true, false, cond, not, ◌&&◌, ◌||◌, nat_lt, nat_le, ltb, leb, ◌⊎◌, List, [], ◌∷◌, ◌++◌, map, length, drop, Option, Some, None, is_some, option_map, filter, refl, ap, ap₂, sym, ◌∙◌, subst, inl, inr, arith, append_assoc, append-nil, ltb-true, ltb-false, leb-true, leb-false, lt-ltb, le-ltb, le-leb, length-append, le_refl, le_trans}
 use Rattle.std.proofs.lemmas.Bool.{cases_Bool, or_parts, both_ways}
 use Rattle.std.specs.List.{list_any, AllByRecursion}
 use Rattle.std.specs.Option.{option_or}
@@ -22,14 +22,14 @@ last_of-append test (x ∷ xs) ys =
     ap (λ o. option_or o here) (last_of-append test xs ys) ∙ option_or-assoc (last_of test ys) (last_of test xs) here
 
 -- what a filter leaves out is not the last that passes, if it does not pass
-pub last_of-filter : {E : Type 0} (test keep : E → Bool) → ((e : E) → test e ≡ true → keep e ≡ true) → (es : List E) → last_of test (filter keep es) ≡ last_of test es
-last_of-filter test keep f [] = refl
-last_of-filter test keep f (e ∷ es) =
-    let rest = last_of-filter test keep f es in
+pub last_of-filter : {E : Type 0} (test keep : E → Bool) (es : List E) → AllByRecursion (λ e. test e ≡ true → keep e ≡ true) es → last_of test (filter keep es) ≡ last_of test es
+last_of-filter test keep [] h = refl
+last_of-filter test keep (e ∷ es) h =
+    let rest = last_of-filter test keep es h.1 in
     elim (cases_Bool (keep e)) [
-      | inl a ↦ rw a (ap (λ o. option_or o (cond (test e) (Some e) None)) rest)
+        inl a ↦ rw a (ap (λ o. option_or o (cond (test e) (Some e) None)) rest)
       | inr a ↦
-          let out : test e ≡ false = elim (cases_Bool (test e)) [ inl b ↦ absurd (both_ways (keep e) a (f e b)) | inr b ↦ b ] in
+          let out : test e ≡ false = elim (cases_Bool (test e)) [ inl b ↦ absurd (both_ways (keep e) a (h.0 b)) | inr b ↦ b ] in
           rw (a, out) (rest ∙ sym (option_or-none (last_of test es)))
     ]
 
@@ -112,3 +112,12 @@ last_of-picked same has key pick (e ∷ es) =
     pick_cases pick has e (current same es) (list_any (same e) es) (pick e) refl
     ∙ picked_step pick e (list_any (same e) es) (has e) (pick e) (last_of has es) (last_of has (filter pick (current same es)))
     (λ h. same_any (same e) has (λ f. key e f h) es ∙ is_some-last_of has es) refl (last_of-picked same has key pick es)
+
+-- the last that passes among what a map gives
+pub last_of-map : {E F : Type 0} (test : F → Bool) (f : E → F) (es : List E) → last_of test (map f es) ≡ option_map f (last_of (λ e. test (f e)) es)
+last_of-map test f [] = refl
+last_of-map test f (e ∷ es) = ap (λ o. option_or o (cond (test (f e)) (Some (f e)) None)) (last_of-map test f es) ∙ map_step f (last_of (λ d. test (f d)) es) (test (f e)) e where
+  map_step : {E F : Type 0} (f : E → F) (o : Option E) (b : Bool) (e : E) → option_or (option_map f o) (cond b (Some (f e)) None) ≡ option_map f (option_or o (cond b (Some e) None))
+  map_step f None true e = refl
+  map_step f None false e = refl
+  map_step f (Some g) b e = refl
