@@ -1,0 +1,9 @@
+pub mod Redacting
+pub mod Timelines
+pub mod Cuts
+pub mod States
+pub mod Copies
+pub mod Owed
+pub mod Replies
+pub mod Pages
+pub mod Rest

@@ -1,0 +1,51 @@
+-- The folding law of one room: what a client holds after it has put a reply's part or a page into its room.
+use Rattle.std.specs.Prelude.{◌≡◌, ℕ, ◌≤◌, Bool, true, false, not, ◌&&◌, ◌||◌, cond, List, [], ◌∷◌, ◌++◌, map, nat_lt, nat_le}
+use Rattle.std.specs.List.{filter, list_any}
+use Rattle.mx_folding.specs.Rooms.{Room, IsRoom, StaysSent}
+use Rattle.mx_folding.specs.Parts.{Part, part_of, page_of, picks, picks_new}
+use Rattle.mx_folding.specs.Clients.{Entry, Held, Open, ClientRoom, empty_room, held, with_part, with_page}
+use Rattle.mx_folding.specs.Agreement.{pictured, TimelineAgrees, RoomAgrees}
+
+-- A room that agrees with the picture at s agrees with that at t, after the part that a reply sends for the window
+-- (s, t]: with the state before or after the timeline, with any limit, with full_state (`from` is 0) or without
+-- (`from` is s), with or without lazy members, whatever the heroes.
+abbrev pub FoldsReply : Type 0 → Type 0 → Type 0
+FoldsReply E K = (r : Room E K) (es : List E) → IsRoom r es → (after : Bool) (limit from s t front front' b : ℕ) (redundant : Bool) (heroes : K → Bool) (room : ClientRoom E K)
+    → StaysSent r es s → from ≤ s → s ≤ t → front ≤ front' → t ≤ front' → RoomAgrees r es b s front room
+    → RoomAgrees r es b t front' (with_part r after s t (part_of r es after limit s t (picks r redundant b s from heroes)) room)
+
+-- An empty room agrees with the picture at t, after the part that a reply sends of a new room: where the user was
+-- joined from b to t, t is b.
+abbrev pub FoldsNew : Type 0 → Type 0 → Type 0
+FoldsNew E K = (r : Room E K) (es : List E) → IsRoom r es → (after : Bool) (limit t front b : ℕ) (heroes : K → Bool)
+    → t ≤ front → (r.stayed b t ≡ true → t ≤ b)
+    → RoomAgrees r es b t front (with_part r after 0 t (part_of r es after limit 0 t (picks_new r heroes)) (empty_room E K))
+
+-- A room that agrees with the picture at t still does after a backward page, judged at a front e of at least t, of a
+-- gap in its timeline. The front of its copies is then at least e.
+abbrev pub FoldsPage : Type 0 → Type 0 → Type 0
+FoldsPage E K = (r : Room E K) (es : List E) → IsRoom r es → (limit b t front front' e lower upper g : ℕ) (before behind : List (Entry E)) (state : K → _)
+    → StaysSent r es t → t ≤ e → e ≤ front' → front ≤ front'
+    → RoomAgrees r es b t front (record { state = state; timeline = before ++ Open lower upper g ∷ behind })
+    → RoomAgrees r es b t front' (with_page r lower g before behind (page_of r es limit g e lower upper) state)
+
+abbrev pub is_cons : {A : Type 0} → List A → Bool
+is_cons [] = false
+is_cons (x ∷ xs) = true
+
+-- the part says something of the room
+abbrev pub has_some : {E : Type 0} → Part E → Bool
+has_some part = part.limited || (is_cons part.state || is_cons part.sent)
+
+-- A part that says nothing leaves the room as it is.
+abbrev pub FoldsNothing : Type 0 → Type 0 → Type 0
+FoldsNothing E K = (r : Room E K) (after : Bool) (s t : ℕ) (part : Part E) (room : ClientRoom E K) → has_some part ≡ false → with_part r after s t part room ≡ room
+
+abbrev pub is_in_gap : {C : Type 0} → ℕ → Entry C → Bool
+is_in_gap p (Held c) = false
+is_in_gap p (Open lower upper front) = nat_lt lower p && nat_le p upper
+
+-- A timeline that agrees holds the picture's events in order, less those in the stretches of its open gaps.
+abbrev pub HoldsTheRest : Type 0 → Type 0 → Type 0
+HoldsTheRest E K = (r : Room E K) (es : List E) (t : ℕ) (timeline : List (Entry E)) → TimelineAgrees r es t timeline
+    → map r.at (held timeline) ≡ filter (λ p. not (list_any (is_in_gap p) timeline)) (pictured r es t 0 t)

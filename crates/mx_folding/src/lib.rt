@@ -1,0 +1,12 @@
+//! The folding law: what a client holds, after it has folded sync replies and pages into it, is what one unlimited
+//! initial sync at its token shows.
+//!
+//! The crate has definitions and laws, and no code that runs. `specs/` states, over events of any type, what a reply
+//! and a page say of a room (Client-Server API, Syncing, and Getting events for a room), what a client does with it,
+//! and when a client agrees with the picture at its token. Each law is the contract of a function here; the functions
+//! do nothing when they run.
+#![tactic(auto)]
+
+mod room_laws;
+
+pub use room_laws::{folds_new, folds_nothing, folds_page, folds_reply, holds_the_rest};
