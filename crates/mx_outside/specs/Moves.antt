@@ -17,7 +17,7 @@ FitsRoom took.Failed room = Unit {0}
 -- where none was left, and a failed take loses none
 abbrev pub Moves : Option (List ℕ) → Option (List ℕ) → Took → List ℕ → Type 0
 Moves old new (took.Got n) into = Consumes old new (take n into)
-Moves old new took.End into = IsAtEnd old × Keeps old new
+Moves old new took.End into = IsAtEnd new × Keeps old new
 Moves old new took.Failed into = Keeps old new
 
 -- all of the bytes were added, or the first n of them where the put failed
