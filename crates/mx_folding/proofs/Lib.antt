@@ -7,3 +7,5 @@ pub mod Owed
 pub mod Replies
 pub mod Pages
 pub mod Rest
+pub mod Sees
+pub mod Memberships

@@ -1,5 +1,5 @@
 -- The folding law of one room: what a client holds after it has put a reply's part or a page into its room.
-use Rattle.std.specs.Prelude.{◌≡◌, ℕ, ◌≤◌, Bool, true, false, not, ◌&&◌, ◌||◌, cond, List, [], ◌∷◌, ◌++◌, map, nat_lt, nat_le}
+use Rattle.std.specs.Prelude.{◌≡◌, ℕ, ◌≤◌, Bool, true, false, not, ◌&&◌, ◌||◌, cond, List, [], ◌∷◌, ◌++◌, map, Option, nat_lt, nat_le}
 use Rattle.std.specs.List.{filter, list_any}
 use Rattle.mx_folding.specs.Rooms.{Room, IsRoom, StaysSent}
 use Rattle.mx_folding.specs.Parts.{Part, part_of, page_of, picks, picks_new}
@@ -24,7 +24,7 @@ FoldsNew E K = (r : Room E K) (es : List E) → IsRoom r es → (after : Bool) (
 -- A room that agrees with the picture at t still does after a backward page, judged at a front e of at least t, of a
 -- gap in its timeline. The front of its copies is then at least e.
 abbrev pub FoldsPage : Type 0 → Type 0 → Type 0
-FoldsPage E K = (r : Room E K) (es : List E) → IsRoom r es → (limit b t front front' e lower upper g : ℕ) (before behind : List (Entry E)) (state : K → _)
+FoldsPage E K = (r : Room E K) (es : List E) → IsRoom r es → (limit b t front front' e lower upper g : ℕ) (before behind : List (Entry E)) (state : K → Option E)
     → StaysSent r es t → t ≤ e → e ≤ front' → front ≤ front'
     → RoomAgrees r es b t front (record { state = state; timeline = before ++ Open lower upper g ∷ behind })
     → RoomAgrees r es b t front' (with_page r lower g before behind (page_of r es limit g e lower upper) state)

@@ -5,3 +5,5 @@ pub mod Parts
 pub mod Clients
 pub mod Agreement
 pub mod Laws
+pub mod Visible
+pub mod Stories
