@@ -9,3 +9,4 @@ pub mod Pages
 pub mod Rest
 pub mod Sees
 pub mod Memberships
+pub mod Chains

@@ -7,3 +7,4 @@ pub mod Agreement
 pub mod Laws
 pub mod Visible
 pub mod Stories
+pub mod Chains
