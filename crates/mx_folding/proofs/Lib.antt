@@ -10,3 +10,5 @@ pub mod Rest
 pub mod Sees
 pub mod Memberships
 pub mod Chains
+pub mod Longer
+pub mod Lists

@@ -21,12 +21,12 @@ use Rattle.mx_folding.specs.Parts.{is_sender, state_list, state_part, is_omitted
 use Rattle.mx_folding.specs.Clients.{Entry, Held, Open, held, ClientRoom, empty_room, put_all, put_new, gap_if, redact_entry, redacted_room, with_part, with_page}
 use Rattle.mx_folding.specs.Agreement.{pictured, filled, Rises, TimelineAgrees, StateAgrees, is_gap_before, is_owed, IsCopy, IsDue, RoomAgrees}
 use Rattle.mx_folding.proofs.Redacting.{redact_by-at, redact_by-has, redact_by-names, redact_by-wrote, shown-at, shown-has, shown-names, shown-wrote}
-use Rattle.mx_folding.proofs.Timelines.{sendable-stays, pictured-stays, pictured-split, filled-redact, Rises-order, Rises-around, Rises-redact, timeline_reply, timeline_page}
+use Rattle.mx_folding.proofs.Timelines.{filled-held, sendable-stays, pictured-stays, pictured-split, filled-redact, Rises-order, Rises-around, Rises-redact, timeline_reply, timeline_page}
 use Rattle.mx_folding.proofs.Cuts.{Sent, section_sent, no_break, chunk_sent, shown_positions, sendable_ascends, sendable_within, shown_ascends, shown_within}
 use Rattle.mx_folding.proofs.States.{shown_last, wanted_last, part_last, section_last, state_reply, state_page, state_redact}
 use Rattle.mx_folding.proofs.Copies.{copy_at, named_redacted, due_later, due_redact, sent_copies, sent_due, is_named-append, is_named-redact}
 use Rattle.mx_folding.proofs.Owed.{held-append, held-redact, held_reply, held_page, owed_redact, owed_reply, owed_new, owed_late, owed_page}
-use Rattle.mx_folding.specs.Laws.{FoldsReply, FoldsNew, FoldsPage, is_cons, has_some, FoldsNothing, is_in_gap, HoldsTheRest}
+use Rattle.mx_folding.specs.Laws.{FoldsReply, FoldsNew, FoldsPage, is_cons, has_some, FoldsNothing, is_in_gap, HoldsTheRest, HoldsTheState, HoldsAll}
 use Rattle.mx_folding.proofs.Replies.{contained_sendable, contained_state, named_early, map_some, or_some, folds_reply, folds_new}
 
 same_option : {E : Type 0} (f : E → E) → ((e : E) → f e ≡ e) → (o : Option E) → option_map f o ≡ o
@@ -110,3 +110,22 @@ holds_the_rest r es t tl agrees =
     rest_of r.at (pictured r es t) (λ l u. AllByRecursion-map (λ p. (l < p) × (p ≤ u)) r.at (sendable r es t l u)
         (AllByRecursion-filter (λ e. (l < r.at e) × (r.at e ≤ u)) (r.sends t) (between r.at l u es) (between-within r.at l u es))) t 0 t tl agrees.order
     ∙ ap (filter (λ p. not (list_any (is_in_gap p) tl))) agrees.whole
+
+same_state : {E : Type 0} (at : E → ℕ) (held there : Option E) → ((c : E) → ◌≡◌ {A = Option E} held (Some c) → ◌≡◌ {A = Option ℕ} (option_map at there) (Some (at c)))
+    → ((v : E) → ◌≡◌ {A = Option E} there (Some v) → (c : E) × (◌≡◌ {A = Option E} held (Some c))) → ◌≡◌ {A = Option ℕ} (option_map at held) (option_map at there)
+same_state at (Some c) there right enough = sym (right c refl)
+same_state at None None right enough = refl
+same_state at None (Some v) right enough = absurd (cc ((enough v refl).1))
+
+owed_all : (lazy member rest : Bool) → (lazy && member) ≡ false → (not lazy || (not member || rest)) ≡ true
+owed_all false m rest h = refl
+owed_all true false rest h = refl
+owed_all true true rest h = absurd (true≢false h)
+
+pub holds_the_state : {E K : Type 0} → HoldsTheState E K
+holds_the_state r es b t tl state agrees k h =
+    same_state r.at (state k) (state_at r es t k) (agrees.right k)
+      (λ v is. agrees.enough k v is (owed_all r.lazy (r.member k) (r.mine k || (is_sender r (held tl) k || ((r.stayed b t && nat_lt b (r.at v)) || list_any (is_gap_before (r.at v)) tl))) h))
+
+pub holds_all : {E K : Type 0} → HoldsAll E K
+holds_all r es t cs agrees = sym (filled-held r.at (pictured r es t) cs) ∙ agrees.whole

@@ -1,10 +1,11 @@
 -- The folding law of one room: what a client holds after it has put a reply's part or a page into its room.
 use Rattle.std.specs.Prelude.{◌≡◌, ℕ, ◌≤◌, Bool, true, false, not, ◌&&◌, ◌||◌, cond, List, [], ◌∷◌, ◌++◌, map, Option, nat_lt, nat_le}
 use Rattle.std.specs.List.{filter, list_any}
-use Rattle.mx_folding.specs.Rooms.{Room, IsRoom, StaysSent}
+use Rattle.std.specs.Option.{option_map}
+use Rattle.mx_folding.specs.Rooms.{Room, IsRoom, StaysSent, state_at}
 use Rattle.mx_folding.specs.Parts.{Part, part_of, page_of, picks, picks_new}
 use Rattle.mx_folding.specs.Clients.{Entry, Held, Open, ClientRoom, empty_room, held, with_part, with_page}
-use Rattle.mx_folding.specs.Agreement.{pictured, TimelineAgrees, RoomAgrees}
+use Rattle.mx_folding.specs.Agreement.{pictured, TimelineAgrees, StateAgrees, is_owed, RoomAgrees}
 
 -- A room that agrees with the picture at s agrees with that at t, after the part that a reply sends for the window
 -- (s, t]: with the state before or after the timeline, with any limit, with full_state (`from` is 0) or without
@@ -49,3 +50,13 @@ is_in_gap p (Open lower upper front) = nat_lt lower p && nat_le p upper
 abbrev pub HoldsTheRest : Type 0 → Type 0 → Type 0
 HoldsTheRest E K = (r : Room E K) (es : List E) (t : ℕ) (timeline : List (Entry E)) → TimelineAgrees r es t timeline
     → map r.at (held timeline) ≡ filter (λ p. not (list_any (is_in_gap p) timeline)) (pictured r es t 0 t)
+
+-- A state that agrees has the picture's events under the picture's keys: all of them without lazy members, and all but
+-- the member events with them.
+abbrev pub HoldsTheState : Type 0 → Type 0 → Type 0
+HoldsTheState E K = (r : Room E K) (es : List E) (b t : ℕ) (timeline : List (Entry E)) (state : K → Option E) → StateAgrees r es t (is_owed r b t timeline) state
+    → (k : K) → (r.lazy && r.member k) ≡ false → ◌≡◌ {A = Option ℕ} (option_map r.at (state k)) (option_map r.at (state_at r es t k))
+
+-- With no open gap, a timeline that agrees holds the picture's events in order.
+abbrev pub HoldsAll : Type 0 → Type 0 → Type 0
+HoldsAll E K = (r : Room E K) (es : List E) (t : ℕ) (cs : List E) → TimelineAgrees r es t (map Held cs) → map r.at cs ≡ pictured r es t 0 t

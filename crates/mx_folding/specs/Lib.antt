@@ -8,3 +8,5 @@ pub mod Laws
 pub mod Visible
 pub mod Stories
 pub mod Chains
+pub mod Lists
+pub mod Longer
