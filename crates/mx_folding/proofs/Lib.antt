@@ -12,3 +12,4 @@ pub mod Memberships
 pub mod Chains
 pub mod Longer
 pub mod Lists
+pub mod Events

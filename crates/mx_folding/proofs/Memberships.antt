@@ -84,36 +84,36 @@ module _ {E K V D T : Type 0} (k : Tokens T) (tokens : IsTokens k) (g : Story E 
   more i j = part_of g.room g.events ask.after ask.limit (k.event i) (k.event j) (picks g.room ask.redundant b (k.event i) (cond ask.full 0 (k.event i)) heroes)
 
   -- a new room
-  told_anew : (j : T) (front : ℕ) (s : ℕ) (had : Holding E K V) → k.event j ≤ front → (g.room.stayed b (k.event j) ≡ true → k.event j ≤ b) → Holds k g b j front In (with_told g ask.after s (k.event j) (Anew (anew j) (g.view j)) had)
+  told_anew : (j : T) (front : ℕ) (s : ℕ) (had : Holding E K V) → k.event j ≤ front → (g.room.stayed b (k.event j) ≡ true → k.event j ≤ b) → Holds k g b j front In (with_told g ask.after s (k.event j) (Anew (anew j) (g.rest.view j)) had)
   told_anew j front s had upto vacuous =
-      (with_part g.room ask.after 0 (k.event j) (anew j) (empty_room E K), g.view j, refl, folds_new g.room g.events story.room ask.after ask.limit (k.event j) front b heroes upto vacuous, refl, refl)
+      (with_part g.room ask.after 0 (k.event j) (anew j) (empty_room E K), g.rest.view j, refl, folds_new g.room g.events story.room ask.after ask.limit (k.event j) front b heroes upto vacuous, refl, refl)
 
   -- a room that the user was joined in
   told_more : (i j : T) (front front' : ℕ) (had : Holding E K V) → k.before i j ≡ true → joined_in g (k.event i) ≡ true → joined_in g (k.event j) ≡ true → front ≤ front' → k.event j ≤ front'
       → Holds k g b i front In had
-      → Holds k g b j front' In (with_told g ask.after (k.event i) (k.event j) (cond (has_some (more i j) || g.differs i j) (More (more i j) (g.delta i j)) Nothing) had)
+      → Holds k g b j front' In (with_told g ask.after (k.event i) (k.event j) (cond (has_some (more i j) || g.rest.differs i j) (More (more i j) (g.rest.delta i j)) Nothing) had)
   told_more i j front front' had next at_i at_j later upto h =
       let room : ClientRoom E K = h.0 in
       let folded : RoomAgrees g.room g.events b (k.event j) front' (with_part g.room ask.after (k.event i) (k.event j) (more i j) room) =
             folds_reply g.room g.events story.room ask.after ask.limit (cond ask.full 0 (k.event i)) (k.event i) (k.event j) front front' b ask.redundant heroes room (story.stays (k.event i) at_i)
               (below ask.full (k.event i)) (tokens.rises i j next) later upto h.3 in
-      elim (cases_Bool (has_some (more i j) || g.differs i j)) [
+      elim (cases_Bool (has_some (more i j) || g.rest.differs i j)) [
           inl some ↦ rw some (
             with_part g.room ask.after (k.event i) (k.event j) (more i j) room,
-            g.changed h.1 (g.delta i j),
-            ap (more_joined g ask.after (k.event i) (k.event j) (more i j) (g.delta i j)) h.2,
+            g.rest.changed h.1 (g.rest.delta i j),
+            ap (more_joined g ask.after (k.event i) (k.event j) (more i j) (g.rest.delta i j)) h.2,
             folded,
-            ap (λ v. g.changed v (g.delta i j)) h.4 ∙ story.folds i j next at_i at_j,
+            ap (λ v. g.rest.changed v (g.rest.delta i j)) h.4 ∙ story.rest.folds i j next at_i at_j,
             refl,
           )
         | inr none ↦
-            let parts = or_parts (has_some (more i j)) (g.differs i j) none in
+            let parts = or_parts (has_some (more i j)) (g.rest.differs i j) none in
             rw none (
             room,
             h.1,
             h.2,
             subst (RoomAgrees g.room g.events b (k.event j) front') (folds_nothing g.room ask.after (k.event i) (k.event j) (more i j) room parts.0) folded,
-            h.4 ∙ sym (story.still i j next at_i at_j parts.1),
+            h.4 ∙ sym (story.rest.still i j next at_i at_j parts.1),
             h.5,
           )
       ] where

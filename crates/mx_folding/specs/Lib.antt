@@ -10,3 +10,4 @@ pub mod Stories
 pub mod Chains
 pub mod Lists
 pub mod Longer
+pub mod Events

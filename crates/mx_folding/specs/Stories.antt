@@ -25,8 +25,22 @@ abbrev pub position : {T : Type 0} → Tokens T → Option T → ℕ
 position k None = 0
 position k (Some i) = k.event i
 
--- A room, and the rest that a client holds of it: V is the view of receipts, room account data, unread counts and
--- summary at a token, D what a reply says of their change.
+-- The rest that a client holds of a room: V is the view of receipts, room account data, unread counts and summary at a
+-- token, D what a reply says of its change.
+pub record Rest (V D T : Type 0) : Type 0 where
+  pub view : T → V
+  pub delta : T → T → D
+  pub changed : V → D → V
+  -- a reply has something to say of the change
+  pub differs : T → T → Bool
+
+-- the section law: the view at a token is the one at an earlier one with what a reply says of the change, and where a
+-- reply has nothing to say it is the same
+pub record FoldsRest {V D T : Type 0} (k : Tokens T) (joined : ℕ → Bool) (rest : Rest V D T) : Type 0 where
+  pub folds : (i j : T) → k.before i j ≡ true → joined (k.event i) ≡ true → joined (k.event j) ≡ true → rest.changed (rest.view i) (rest.delta i j) ≡ rest.view j
+  pub still : (i j : T) → k.before i j ≡ true → joined (k.event i) ≡ true → joined (k.event j) ≡ true → rest.differs i j ≡ false → rest.view j ≡ rest.view i
+
+-- a room over time
 pub record Story (E K V D T : Type 0) : Type 0 where
   pub room : Room E K
   pub events : List E
@@ -37,11 +51,7 @@ pub record Story (E K V D T : Type 0) : Type 0 where
   pub stripped : E → List ℕ
   -- the filter picks the room
   pub picked : Bool
-  pub view : T → V
-  pub delta : T → T → D
-  pub changed : V → D → V
-  -- a reply has something to say of the view's change
-  pub differs : T → T → Bool
+  pub rest : Rest V D T
 
 abbrev pub own_at : {E K V D T : Type 0} → Story E K V D T → ℕ → Option E
 own_at g p = last_of g.is_own (between g.room.at 0 p g.events)
@@ -58,10 +68,7 @@ pub record IsStory {E K V D T : Type 0} (k : Tokens T) (g : Story E K V D T) : T
   pub kinds : AllByRecursion (λ e. g.is_own e ≡ true → is_some (g.membership e) ≡ true) g.events
   -- who stayed joined is joined
   pub stayed : (b s : ℕ) → b ≤ s → g.room.stayed b s ≡ true → joined_in g s ≡ true
-  -- the view at a token is the one at an earlier one with what a reply says of the change
-  pub folds : (i j : T) → k.before i j ≡ true → joined_in g (k.event i) ≡ true → joined_in g (k.event j) ≡ true → g.changed (g.view i) (g.delta i j) ≡ g.view j
-  -- where a reply has nothing to say the view is the same
-  pub still : (i j : T) → k.before i j ≡ true → joined_in g (k.event i) ≡ true → joined_in g (k.event j) ≡ true → g.differs i j ≡ false → g.view j ≡ g.view i
+  pub rest : FoldsRest k (joined_in g) g.rest
 
 -- how the user stands to a room that the filter picks
 pub data Standing : Type 0 where
@@ -102,9 +109,9 @@ pub record Sync : Type 0 where
 
 -- a joined room is new without `since`, and where the user wasn't joined then
 abbrev pub told_joined : {E K V D T : Type 0} → Tokens T → Story E K V D T → Option T → T → Part E → Part E → Told E V D
-told_joined k g None j anew more = Anew anew (g.view j)
+told_joined k g None j anew more = Anew anew (g.rest.view j)
 told_joined k g (Some i) j anew more =
-    cond (joined_in g (k.event i)) (cond (has_some more || g.differs i j) (More more (g.delta i j)) Nothing) (Anew anew (g.view j))
+    cond (joined_in g (k.event i)) (cond (has_some more || g.rest.differs i j) (More more (g.rest.delta i j)) Nothing) (Anew anew (g.rest.view j))
 
 -- an invite is sent once
 abbrev pub told_invited : {E K V D T : Type 0} → Tokens T → Story E K V D T → Option T → E → Told E V D
@@ -142,7 +149,7 @@ pub record Holding (E K V : Type 0) : Type 0 where
 
 abbrev pub more_joined : {E K V D T : Type 0} → Story E K V D T → Bool → ℕ → ℕ → Part E → D → Option (ClientRoom E K × V) → Option (ClientRoom E K × V)
 more_joined g after s t part delta None = None
-more_joined g after s t part delta (Some p) = Some (with_part g.room after s t part p.0, g.changed p.1 delta)
+more_joined g after s t part delta (Some p) = Some (with_part g.room after s t part p.0, g.rest.changed p.1 delta)
 
 -- what it holds after a reply
 abbrev pub with_told : {E K V D T : Type 0} → Story E K V D T → Bool → ℕ → ℕ → Told E V D → Holding E K V → Holding E K V
@@ -156,7 +163,7 @@ with_told g after s t Left had = record { joined = None; invited = None }
 abbrev pub Holds : {E K V D T : Type 0} → Tokens T → Story E K V D T → ℕ → T → ℕ → Standing → Holding E K V → Type 0
 Holds k g b i front Out had = (had.joined ≡ None) × (had.invited ≡ None)
 Holds {E = E} {K = K} {V = V} k g b i front In had =
-    (room : ClientRoom E K) × (view : V) × (had.joined ≡ Some (room, view)) × RoomAgrees g.room g.events b (k.event i) front room × (view ≡ g.view i) × (had.invited ≡ None)
+    (room : ClientRoom E K) × (view : V) × (had.joined ≡ Some (room, view)) × RoomAgrees g.room g.events b (k.event i) front room × (view ≡ g.rest.view i) × (had.invited ≡ None)
 Holds k g b i front (Asked ids) had = (had.joined ≡ None) × (had.invited ≡ Some ids)
 
 -- what a client holds of a room agrees with the picture at its token; before its first token it holds nothing
