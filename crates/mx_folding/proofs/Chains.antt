@@ -1,41 +1,21 @@
 -- Chains of replies and pages.
-use Rattle.std.proofs.Common.{◌≡◌, ℕ, zero, suc, ◌+◌, ◌-◌, ◌<◌, ◌≤◌, Bool, true, false, cond, not, ◌&&◌, ◌||◌, ◌==◌, nat_lt, nat_le, ltb, leb, ◌⊎◌, List, [], ◌∷◌, ◌++◌, map, length, drop, Option, Some, None, is_some, option_map, filter, refl, ap, ap₂, sym, ◌∙◌, subst, inl, inr, ⊎_elim, arith, append_assoc, append-nil, ltb-true, ltb-false, leb-true, leb-false, lt-ltb, le-ltb, le-leb, eq-eqb, eqb-true, length-append}
-use Rattle.std.proofs.lemmas.Bool.{cases_Bool, and_parts, and_from, and_left, and_right, and_cases, or_parts, or_from, or_left, or_right, or_cases, true≢false, false≢true, cases_lt, both_ways, lt-leb, not-true, not-false, not_from_true, not_from_false, true_from_ne_false}
-use Rattle.std.proofs.lemmas.Bool.Decides.{nat_tests}
-use Rattle.std.proofs.lemmas.List.{map-append}
-use Rattle.std.proofs.lemmas.List.Elements.{filter-append}
-use Rattle.std.specs.List.{list_any, AllByRecursion, Contains}
-use Rattle.std.proofs.lemmas.List.Folds.{list_any-append}
-use Rattle.std.specs.Option.{option_or}
+use Rattle.std.proofs.Common.{◌≡◌, ℕ, ◌≤◌, Bool, true, false, cond, List, [], ◌∷◌, Option, Some, None, option_map, refl, ap, sym, ◌∙◌, subst, arith}
 use Rattle.std.specs.Prelude.{⊤}
-use Rattle.mx_window.specs.Windows.{Ascends, between, before_first}
-use Rattle.mx_window.specs.Lasts.{last_of, last_at, last, current, keep_if}
-use Rattle.mx_window.proofs.Each.{AllByRecursion-map, AllByRecursion-append, AllByRecursion-front, AllByRecursion-back, AllByRecursion-weaker, AllByRecursion-both, AllByRecursion-every, AllByRecursion-filter, AllByRecursion-passed, AllByRecursion-none, AllByRecursion-at, AllByRecursion-contained, list_any-none, list_any-map, list_any-same, filter-weaker, filter-swap, filter-same, filter-none, map-map, map-same}
-use Rattle.mx_window.proofs.Intervals.{between-empty, between-none, between-split, between-inner, between-within, Ascends-filter, Ascends-between, Ascends-lower, Ascends-map}
-use Rattle.mx_window.proofs.Lasts.{option_or-none, option_or-assoc, last_of-append, last_of-filter, last_of-same, last_of-some, last_of-none, none-last_of, last_of-split, AllByRecursion-current, last_of-picked, last_of-map, is_some-last_of}
-use Rattle.mx_window.proofs.Sections.{last-between, after-last, list_any-filter, Ascends-after}
-use Rattle.mx_folding.specs.Rooms.{Room, IsRoom, StaysSent, state_at}
-use Rattle.mx_folding.specs.Sections.{sendable, break_at, section, cut, is_limited, chunk}
-use Rattle.mx_folding.specs.Redactions.{is_some_of, is_named, is_redacted, shown, redact_by}
-use Rattle.mx_folding.specs.Parts.{is_sender, state_list, state_part, is_omitted, picks, picks_new, Part, part_of, Page, page_of}
-use Rattle.mx_folding.specs.Clients.{Entry, Held, Open, held, ClientRoom, empty_room, put_all, put_new, gap_if, redact_entry, redacted_room, with_part, with_page}
-use Rattle.mx_folding.specs.Agreement.{pictured, filled, Rises, TimelineAgrees, StateAgrees, is_gap_before, is_owed, IsCopy, IsDue, RoomAgrees}
-use Rattle.mx_folding.proofs.Redacting.{redact_by-at, redact_by-has, redact_by-names, redact_by-wrote, shown-at, shown-has, shown-names, shown-wrote}
-use Rattle.mx_folding.proofs.Timelines.{sendable-stays, pictured-stays, pictured-split, filled-redact, Rises-order, Rises-around, Rises-redact, timeline_reply, timeline_page}
-use Rattle.mx_folding.proofs.Cuts.{Sent, section_sent, no_break, chunk_sent, shown_positions, sendable_ascends, sendable_within, shown_ascends, shown_within}
-use Rattle.mx_folding.proofs.States.{shown_last, wanted_last, part_last, section_last, state_reply, state_page, state_redact}
-use Rattle.mx_folding.proofs.Copies.{copy_at, named_redacted, due_later, due_redact, sent_copies, sent_due, is_named-append, is_named-redact}
-use Rattle.mx_folding.proofs.Owed.{held-append, held-redact, held_reply, held_page, owed_redact, owed_reply, owed_new, owed_late, owed_page}
-use Rattle.mx_folding.specs.Laws.{FoldsReply, FoldsNew, FoldsPage, is_cons, has_some, FoldsNothing, is_in_gap, HoldsTheRest}
-use Rattle.mx_folding.proofs.Replies.{contained_sendable, contained_state, named_early, map_some, or_some, folds_reply, folds_new}
+use Rattle.mx_window.proofs.Each.{AllByRecursion-weaker}
+use Rattle.mx_folding.specs.Rooms.{StaysSent}
+use Rattle.mx_folding.specs.Redactions.{is_named}
+use Rattle.mx_folding.specs.Parts.{page_of}
+use Rattle.mx_folding.specs.Clients.{held, ClientRoom, with_page}
+use Rattle.mx_folding.specs.Agreement.{IsDue, RoomAgrees}
+use Rattle.mx_folding.proofs.Copies.{due_later}
 use Rattle.std.proofs.Common.{max}
 use Rattle.std.proofs.lemmas.Option.{same_Some}
 use Rattle.std.specs.Option.{option_and_then}
 use Rattle.mx_folding.proofs.Pages.{folds_page}
 use Rattle.mx_folding.proofs.Memberships.{folds_room}
 use Rattle.mx_folding.specs.Visible.{Membership, Join, Invite, Leave, Ban, is_join}
-use Rattle.mx_folding.specs.Stories.{Tokens, IsTokens, position, Story, own_at, joined_in, IsStory, Standing, Out, In, Asked, standing_by, standing_of, standing, Sync, told, Holding, with_told, Holds, HoldingAgrees, IsNext, IsBase}
-use Rattle.mx_folding.specs.Chains.{Client, new_client, Gap, around, Turn, Synced, Paged, base_of, paged, with_paged, after_turn, after_turns, IsOpen, IsPast, IsTurn, AreTurns, Agrees, ChainsFold}
+use Rattle.mx_folding.specs.Stories.{Tokens, IsTokens, Story, own_at, IsStory, Standing, Out, In, Asked, standing_by, standing_of, standing, Holding, Holds, HoldingAgrees, IsNext, IsBase}
+use Rattle.mx_folding.specs.Chains.{Client, new_client, Gap, around, Turn, Synced, Paged, base_of, paged, with_paged, after_turn, after_turns, IsOpen, IsPast, AreTurns, Agrees, ChainsFold}
 
 -- b lies at or before the token, and the token at or before the front
 abbrev IsSound : {T : Type 0} → Tokens T → ℕ → Option T → ℕ → Type 0
@@ -84,13 +64,14 @@ page_in {E = E} {K = K} {V = V} k g story limit b e front front' i gap had In is
     let timeline : room.timeline ≡ around gap = ap (λ (c : ClientRoom E K). c.timeline) (sym same_room) ∙ open'.3 in
     let whole : ◌≡◌ {A = ClientRoom E K} room (record { state = room.state; timeline = around gap }) = λ j. record { state = room.state; timeline = timeline j } in
     let agrees : RoomAgrees g.room g.events b (k.event i) front (record { state = room.state; timeline = around gap }) = subst (RoomAgrees g.room g.events b (k.event i) front) whole h.3 in
-    let stays : StaysSent g.room g.events (k.event i) = story.stays (k.event i) (stands_in g g.picked (own_at g (k.event i)) is) in
-    (with_page g.room gap.lower gap.front gap.before gap.behind (page_of g.room g.events limit gap.front e gap.lower gap.upper) room.state,
+    let stays : StaysSent g.room g.events (k.event i) = story.stays (k.event i) (stands_in g g.picked (own_at g (k.event i)) is) in (
+      with_page g.room gap.lower gap.front gap.before gap.behind (page_of g.room g.events limit gap.front e gap.lower gap.upper) room.state,
       h.1,
       ap (option_map (paged g limit e gap)) h.2,
       folds_page g.room g.events story.room limit b (k.event i) front front' e gap.lower gap.upper gap.front gap.before gap.behind room.state stays past upto later agrees,
       h.4,
-      h.5)
+      h.5,
+    )
 
 -- a later front asks no more of what is held
 holds_later : {E K V D T : Type 0} (k : Tokens T) (g : Story E K V D T) (b : ℕ) (i : T) (front front' : ℕ) (st : Standing) (had : Holding E K V) → front ≤ front' → Holds k g b i front st had → Holds k g b i front' st had
@@ -98,14 +79,20 @@ holds_later k g b i front front' Out had up h = h
 holds_later k g b i front front' (Asked ids) had up h = h
 holds_later k g b i front front' In had up h =
     let room = h.0 in
-    let agrees = h.3 in
-    (h.0, h.1, h.2, record {
+    let agrees = h.3 in (
+      h.0,
+      h.1,
+      h.2,
+      record {
         timeline = agrees.timeline;
         state = agrees.state;
         held_copies = AllByRecursion-weaker (IsDue g.room g.events front (is_named g.room (held room.timeline))) (IsDue g.room g.events front' (is_named g.room (held room.timeline)))
             (λ c d. due_later g.room g.events front front' (is_named g.room (held room.timeline)) c up d) (held room.timeline) agrees.held_copies;
         state_copies = λ key c e. due_later g.room g.events front front' (is_named g.room (held room.timeline)) c up (agrees.state_copies key c e);
-      }, h.4, h.5)
+      },
+      h.4,
+      h.5,
+    )
 
 page_step : {E K V D T : Type 0} (k : Tokens T) (g : Story E K V D T) (story : IsStory k g) (limit b e front front' : ℕ) (since : Option T) (gap : Option (Gap E)) (had : Holding E K V)
     → IsPast k since e → e ≤ front' → front ≤ front' → IsOpen gap had → HoldingAgrees k g b since front had → HoldingAgrees k g b since front' (with_paged g limit e gap had)
@@ -120,11 +107,11 @@ turns_fold : {X E K V D T : Type 0} (k : Tokens T) → IsTokens k → (w : X →
 turns_fold k tokens w stories c [] sound agrees are = agrees
 turns_fold k tokens w stories c (Synced ask heroes j ∷ turns) sound agrees are =
     turns_fold k tokens w stories (after_turn k w c (Synced ask heroes j)) turns (sound_after k tokens c.base c.token j c.front sound are.0)
-      (λ x. folds_room k tokens (w x) (stories x) ask (heroes x) (base_of k c.base c.token j) c.token j c.front (max c.front (k.event j)) (c.rooms x)
-        are.0 (base_is k tokens c.base c.token j c.front sound are.0) (omega arith) (omega arith) (agrees_based k (w x) c.base c.token j c.front (c.rooms x) (agrees x))) are.1
+    (λ x. folds_room k tokens (w x) (stories x) ask (heroes x) (base_of k c.base c.token j) c.token j c.front (max c.front (k.event j)) (c.rooms x)
+    are.0 (base_is k tokens c.base c.token j c.front sound are.0) (omega arith) (omega arith) (agrees_based k (w x) c.base c.token j c.front (c.rooms x) (agrees x))) are.1
 turns_fold k tokens w stories c (Paged limit e gaps ∷ turns) sound agrees are =
     turns_fold k tokens w stories (after_turn k w c (Paged limit e gaps)) turns (sound_paged k c.base c.token c.front e sound)
-      (λ x. page_step k (w x) (stories x) limit c.base e c.front (max c.front e) c.token (gaps x) (c.rooms x) are.0.0 (omega arith) (omega arith) (are.0.1 x) (agrees x)) are.1
+    (λ x. page_step k (w x) (stories x) limit c.base e c.front (max c.front e) c.token (gaps x) (c.rooms x) are.0.0 (omega arith) (omega arith) (are.0.1 x) (agrees x)) are.1
 
 pub chains_fold : {X E K V D T : Type 0} → ChainsFold X E K V D T
 chains_fold {X = X} {E = E} {K = K} {V = V} {T = T} k tokens w stories turns are = turns_fold k tokens w stories (new_client X E K V T) turns tt (λ x. (refl, refl)) are

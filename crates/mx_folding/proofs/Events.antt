@@ -1,41 +1,16 @@
 -- Events as they are: a valid list is a story.
-use Rattle.std.proofs.Common.{◌≡◌, ℕ, zero, suc, ◌+◌, ◌-◌, ◌<◌, ◌≤◌, Bool, true, false, cond, not, ◌&&◌, ◌||◌, ◌==◌, nat_lt, nat_le, ltb, leb, ◌⊎◌, List, [], ◌∷◌, ◌++◌, map, length, drop, Option, Some, None, is_some, option_map, filter, refl, ap, ap₂, sym, ◌∙◌, subst, inl, inr, ⊎_elim, arith, append_assoc, append-nil, ltb-true, ltb-false, leb-true, leb-false, lt-ltb, le-ltb, le-leb, eq-eqb, eqb-true, length-append}
-use Rattle.std.proofs.lemmas.Bool.{cases_Bool, and_parts, and_from, and_left, and_right, and_cases, or_parts, or_from, or_left, or_right, or_cases, true≢false, false≢true, cases_lt, both_ways, lt-leb, not-true, not-false, not_from_true, not_from_false, true_from_ne_false}
-use Rattle.std.proofs.lemmas.Bool.Decides.{nat_tests}
-use Rattle.std.proofs.lemmas.List.{map-append}
-use Rattle.std.proofs.lemmas.List.Elements.{filter-append}
-use Rattle.std.specs.List.{list_any, AllByRecursion, Contains}
-use Rattle.std.proofs.lemmas.List.Folds.{list_any-append}
-use Rattle.std.specs.Option.{option_or}
-use Rattle.std.specs.Prelude.{⊤}
-use Rattle.mx_window.specs.Windows.{Ascends, between, before_first}
-use Rattle.mx_window.specs.Lasts.{last_of, last_at, last, current, keep_if}
-use Rattle.mx_window.proofs.Each.{AllByRecursion-map, AllByRecursion-append, AllByRecursion-front, AllByRecursion-back, AllByRecursion-weaker, AllByRecursion-both, AllByRecursion-every, AllByRecursion-filter, AllByRecursion-passed, AllByRecursion-none, AllByRecursion-at, AllByRecursion-contained, list_any-none, list_any-map, list_any-same, filter-weaker, filter-swap, filter-same, filter-none, map-map, map-same}
-use Rattle.mx_window.proofs.Intervals.{between-empty, between-none, between-split, between-inner, between-within, Ascends-filter, Ascends-between, Ascends-lower, Ascends-map}
-use Rattle.mx_window.proofs.Lasts.{option_or-none, option_or-assoc, last_of-append, last_of-filter, last_of-same, last_of-some, last_of-none, none-last_of, last_of-split, AllByRecursion-current, last_of-picked, last_of-map, is_some-last_of}
-use Rattle.mx_window.proofs.Sections.{last-between, after-last, list_any-filter, Ascends-after}
-use Rattle.mx_folding.specs.Rooms.{Room, IsRoom, StaysSent, state_at}
-use Rattle.mx_folding.specs.Sections.{sendable, break_at, section, cut, is_limited, chunk}
-use Rattle.mx_folding.specs.Redactions.{is_some_of, is_named, is_redacted, shown, redact_by}
-use Rattle.mx_folding.specs.Parts.{is_sender, state_list, state_part, is_omitted, picks, picks_new, Part, part_of, Page, page_of}
-use Rattle.mx_folding.specs.Clients.{Entry, Held, Open, held, ClientRoom, empty_room, put_all, put_new, gap_if, redact_entry, redacted_room, with_part, with_page}
-use Rattle.mx_folding.specs.Agreement.{pictured, filled, Rises, TimelineAgrees, StateAgrees, is_gap_before, is_owed, IsCopy, IsDue, RoomAgrees}
-use Rattle.mx_folding.proofs.Redacting.{redact_by-at, redact_by-has, redact_by-names, redact_by-wrote, shown-at, shown-has, shown-names, shown-wrote}
-use Rattle.mx_folding.proofs.Timelines.{sendable-stays, pictured-stays, pictured-split, filled-redact, Rises-order, Rises-around, Rises-redact, timeline_reply, timeline_page}
-use Rattle.mx_folding.proofs.Cuts.{Sent, section_sent, no_break, chunk_sent, shown_positions, sendable_ascends, sendable_within, shown_ascends, shown_within}
-use Rattle.mx_folding.proofs.States.{shown_last, wanted_last, part_last, section_last, state_reply, state_page, state_redact}
-use Rattle.mx_folding.proofs.Copies.{copy_at, named_redacted, due_later, due_redact, sent_copies, sent_due, is_named-append, is_named-redact}
-use Rattle.mx_folding.proofs.Owed.{held-append, held-redact, held_reply, held_page, owed_redact, owed_reply, owed_new, owed_late, owed_page}
-use Rattle.mx_folding.specs.Laws.{FoldsReply, FoldsNew, FoldsPage, is_cons, has_some, FoldsNothing, is_in_gap, HoldsTheRest}
-use Rattle.mx_folding.proofs.Replies.{contained_sendable, contained_state, named_early, map_some, or_some, folds_reply, folds_new}
+use Rattle.std.proofs.Common.{◌≡◌, ℕ, Bool, true, false, cond, ◌&&◌, List, Option, None, is_some, refl, ap, sym, ◌∙◌, inl, inr}
+use Rattle.std.proofs.lemmas.Bool.{cases_Bool, and_parts, and_from}
+use Rattle.mx_window.specs.Windows.{between}
+use Rattle.mx_window.proofs.Each.{AllByRecursion-weaker}
+use Rattle.mx_folding.specs.Rooms.{IsRoom}
 use Rattle.std.specs.Str.{bytes_eq}
 use Rattle.std.specs.Prelude.{is_none}
 use Rattle.std.proofs.lemmas.Slice.Eq.{bytes_eq-Decides}
 use Rattle.mx_folding.proofs.Sees.{stays_visible, stayed_joined_less, stayed_joined_at}
 use Rattle.mx_folding.proofs.Chains.{chains_fold}
-use Rattle.mx_folding.specs.Visible.{is_visible, joined_at, stayed_joined}
-use Rattle.mx_folding.specs.Stories.{Tokens, IsTokens, Story, IsStory}
-use Rattle.mx_folding.specs.Events.{member_type, visibility_type, redaction_type, Event, Reading, IsReading, Filter, Key, text_of, key_of, has_key, names_of, viewer_of, room_of, Log, IsValid, IsLog, story_of, EventsAreStory, EventsFold}
+use Rattle.mx_folding.specs.Visible.{is_visible}
+use Rattle.mx_folding.specs.Events.{member_type, redaction_type, Event, Reading, IsReading, Filter, Key, text_of, key_of, has_key, viewer_of, room_of, IsValid, story_of, EventsAreStory, EventsFold}
 
 same_text : (xs ys : List ℕ) → bytes_eq xs ys ≡ true → xs ≡ ys
 same_text xs ys h = (bytes_eq-Decides xs ys).0 h
@@ -52,7 +27,7 @@ stripped_names : {C : Type 0} (m : Reading C) → IsReading m → (kind : List �
     → ◌≡◌ {A = Option ℕ} (cond (bytes_eq kind redaction_type && rest) (m.redacts (m.strip kind c)) None) (cond (bytes_eq kind redaction_type && rest) (m.redacts c) None)
 stripped_names m reading kind rest c =
     elim (cases_Bool (bytes_eq kind redaction_type)) [
-        inl a ↦ ap (λ o. cond (bytes_eq kind redaction_type && rest) o None) (ap (λ k. m.redacts (m.strip k c)) (same_text kind redaction_type a) ∙ reading.strip_redacts c)
+      | inl a ↦ ap (λ o. cond (bytes_eq kind redaction_type && rest) o None) (ap (λ k. m.redacts (m.strip k c)) (same_text kind redaction_type a) ∙ reading.strip_redacts c)
       | inr a ↦ rw a refl
     ]
 
@@ -62,7 +37,7 @@ room_is m reading f user es valid = record {
   kept = λ k e h.
       let parts = and_parts (has_key k e) (f.keeps_type k.0) h in
       and_from (is_some e.state_key) (f.keeps_type e.kind) (and_parts (is_some e.state_key) (bytes_eq e.kind k.0 && bytes_eq (text_of e.state_key) k.1) parts.0).0
-        (ap (λ (p : Key). f.keeps_type p.0) (key_is k e parts.0) ∙ parts.1);
+      (ap (λ (p : Key). f.keeps_type p.0) (key_is k e parts.0) ∙ parts.1);
   state = λ k e h. (and_parts (is_some e.state_key) (bytes_eq e.kind k.0 && bytes_eq (text_of e.state_key) k.1) (and_parts (has_key k e) (f.keeps_type k.0) h).0).0;
   keyed = λ k e h. key_is k e (and_parts (has_key k e) (f.keeps_type k.0) h).0;
   one_key = λ k e d h.
@@ -85,13 +60,13 @@ events_are_story {C = C} k m reading user log is = record {
   room = room_is m reading log.filter user log.events is.valid;
   stays = λ s joined t up.
       AllByRecursion-weaker (λ e. is_visible (viewer_of m user) log.events t e ≡ is_visible (viewer_of m user) log.events s e)
-        (λ e. (is_visible (viewer_of m user) log.events t e && log.filter.passes e) ≡ (is_visible (viewer_of m user) log.events s e && log.filter.passes e))
-        (λ e h. ap (λ b. b && log.filter.passes e) h) (between (λ (e : Event C). e.at) 0 s log.events) (stays_visible (viewer_of m user) log.events is.valid.ascends s t up joined);
+      (λ e. (is_visible (viewer_of m user) log.events t e && log.filter.passes e) ≡ (is_visible (viewer_of m user) log.events s e && log.filter.passes e))
+      (λ e h. ap (λ b. b && log.filter.passes e) h) (between (λ (e : Event C). e.at) 0 s log.events) (stays_visible (viewer_of m user) log.events is.valid.ascends s t up joined);
   kinds = AllByRecursion-weaker (λ (e : Event C). (is_some e.state_key && bytes_eq e.kind member_type) ≡ true → is_some (m.membership e.content) ≡ true)
       (λ (e : Event C). has_key (member_type, user) e ≡ true → is_some (m.membership e.content) ≡ true)
       (λ e h own.
-        let parts = and_parts (is_some e.state_key) (bytes_eq e.kind member_type && bytes_eq (text_of e.state_key) user) own in
-        h (and_from (is_some e.state_key) (bytes_eq e.kind member_type) parts.0 (and_parts (bytes_eq e.kind member_type) (bytes_eq (text_of e.state_key) user) parts.1).0)) log.events is.valid.kinds;
+      let parts = and_parts (is_some e.state_key) (bytes_eq e.kind member_type && bytes_eq (text_of e.state_key) user) own in
+      h (and_from (is_some e.state_key) (bytes_eq e.kind member_type) parts.0 (and_parts (bytes_eq e.kind member_type) (bytes_eq (text_of e.state_key) user) parts.1).0)) log.events is.valid.kinds;
   stayed = λ b s low h. stayed_joined_at (viewer_of m user) log.events b s is.valid.ascends low h;
   rest = is.rest;
 }

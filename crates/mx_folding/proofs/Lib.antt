@@ -13,3 +13,4 @@ pub mod Chains
 pub mod Longer
 pub mod Lists
 pub mod Events
+pub mod LongerEvents

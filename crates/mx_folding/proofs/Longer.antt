@@ -1,33 +1,18 @@
 -- Windows, replies and pages over a list that goes on.
-use Rattle.std.proofs.Common.{◌≡◌, ℕ, zero, suc, ◌+◌, ◌-◌, ◌<◌, ◌≤◌, Bool, true, false, cond, not, ◌&&◌, ◌||◌, ◌==◌, nat_lt, nat_le, ltb, leb, ◌⊎◌, List, [], ◌∷◌, ◌++◌, map, length, drop, Option, Some, None, is_some, option_map, filter, refl, ap, ap₂, sym, ◌∙◌, subst, inl, inr, ⊎_elim, arith, append_assoc, append-nil, ltb-true, ltb-false, leb-true, leb-false, lt-ltb, le-ltb, le-leb, eq-eqb, eqb-true, length-append}
-use Rattle.std.proofs.lemmas.Bool.{cases_Bool, and_parts, and_from, and_left, and_right, and_cases, or_parts, or_from, or_left, or_right, or_cases, true≢false, false≢true, cases_lt, both_ways, lt-leb, not-true, not-false, not_from_true, not_from_false, true_from_ne_false}
-use Rattle.std.proofs.lemmas.Bool.Decides.{nat_tests}
-use Rattle.std.proofs.lemmas.List.{map-append}
+use Rattle.std.proofs.Common.{◌≡◌, ℕ, ◌-◌, ◌<◌, ◌≤◌, Bool, true, false, cond, not, ◌&&◌, nat_lt, nat_le, List, [], ◌∷◌, ◌++◌, map, length, filter, refl, ap, ap₂, ◌∙◌, subst, arith, append-nil}
+use Rattle.std.proofs.lemmas.Bool.{and_right, lt-leb}
 use Rattle.std.proofs.lemmas.List.Elements.{filter-append}
-use Rattle.std.specs.List.{list_any, AllByRecursion, Contains}
-use Rattle.std.proofs.lemmas.List.Folds.{list_any-append}
-use Rattle.std.specs.Option.{option_or}
-use Rattle.std.specs.Prelude.{⊤}
-use Rattle.mx_window.specs.Windows.{Ascends, between, before_first}
-use Rattle.mx_window.specs.Lasts.{last_of, last_at, last, current, keep_if}
-use Rattle.mx_window.proofs.Each.{AllByRecursion-map, AllByRecursion-append, AllByRecursion-front, AllByRecursion-back, AllByRecursion-weaker, AllByRecursion-both, AllByRecursion-every, AllByRecursion-filter, AllByRecursion-passed, AllByRecursion-none, AllByRecursion-at, AllByRecursion-contained, list_any-none, list_any-map, list_any-same, filter-weaker, filter-swap, filter-same, filter-none, map-map, map-same}
-use Rattle.mx_window.proofs.Intervals.{between-empty, between-none, between-split, between-inner, between-within, Ascends-filter, Ascends-between, Ascends-lower, Ascends-map}
-use Rattle.mx_window.proofs.Lasts.{option_or-none, option_or-assoc, last_of-append, last_of-filter, last_of-same, last_of-some, last_of-none, none-last_of, last_of-split, AllByRecursion-current, last_of-picked, last_of-map, is_some-last_of}
-use Rattle.mx_window.proofs.Sections.{last-between, after-last, list_any-filter, Ascends-after}
-use Rattle.mx_folding.specs.Rooms.{Room, IsRoom, StaysSent, state_at}
+use Rattle.std.specs.List.{AllByRecursion}
+use Rattle.mx_window.specs.Windows.{between, before_first}
+use Rattle.mx_window.specs.Lasts.{last_of, last_at, last, current}
+use Rattle.mx_window.proofs.Each.{AllByRecursion-weaker, AllByRecursion-filter, filter-same, map-same}
+use Rattle.mx_window.proofs.Intervals.{between-inner}
+use Rattle.mx_window.proofs.Lasts.{last_of-same}
+use Rattle.mx_folding.specs.Rooms.{Room}
 use Rattle.mx_folding.specs.Sections.{sendable, break_at, section, cut, is_limited, chunk}
-use Rattle.mx_folding.specs.Redactions.{is_some_of, is_named, is_redacted, shown, redact_by}
-use Rattle.mx_folding.specs.Parts.{is_sender, state_list, state_part, is_omitted, picks, picks_new, Part, part_of, Page, page_of}
-use Rattle.mx_folding.specs.Clients.{Entry, Held, Open, held, ClientRoom, empty_room, put_all, put_new, gap_if, redact_entry, redacted_room, with_part, with_page}
-use Rattle.mx_folding.specs.Agreement.{pictured, filled, Rises, TimelineAgrees, StateAgrees, is_gap_before, is_owed, IsCopy, IsDue, RoomAgrees}
-use Rattle.mx_folding.proofs.Redacting.{redact_by-at, redact_by-has, redact_by-names, redact_by-wrote, shown-at, shown-has, shown-names, shown-wrote}
-use Rattle.mx_folding.proofs.Timelines.{sendable-stays, pictured-stays, pictured-split, filled-redact, Rises-order, Rises-around, Rises-redact, timeline_reply, timeline_page}
-use Rattle.mx_folding.proofs.Cuts.{Sent, section_sent, no_break, chunk_sent, shown_positions, sendable_ascends, sendable_within, shown_ascends, shown_within}
-use Rattle.mx_folding.proofs.States.{shown_last, wanted_last, part_last, section_last, state_reply, state_page, state_redact}
-use Rattle.mx_folding.proofs.Copies.{copy_at, named_redacted, due_later, due_redact, sent_copies, sent_due, is_named-append, is_named-redact}
-use Rattle.mx_folding.proofs.Owed.{held-append, held-redact, held_reply, held_page, owed_redact, owed_reply, owed_new, owed_late, owed_page}
-use Rattle.mx_folding.specs.Laws.{FoldsReply, FoldsNew, FoldsPage, is_cons, has_some, FoldsNothing, is_in_gap, HoldsTheRest}
-use Rattle.mx_folding.proofs.Replies.{contained_sendable, contained_state, named_early, map_some, or_some, folds_reply, folds_new}
+use Rattle.mx_folding.specs.Redactions.{is_named, shown}
+use Rattle.mx_folding.specs.Parts.{is_sender, state_list, state_part}
+use Rattle.mx_folding.proofs.Cuts.{sendable_within}
 use Rattle.mx_window.proofs.Sections.{before_first-high, AllByRecursion-drop}
 use Rattle.mx_folding.specs.Longer.{judged_by, SamePart, SamePage}
 
@@ -35,16 +20,16 @@ use Rattle.mx_folding.specs.Longer.{judged_by, SamePart, SamePage}
 pub between-longer : {E : Type 0} (at : E → ℕ) (low high : ℕ) (es later : List E) → AllByRecursion (λ e. high < at e) later → between at low high (es ++ later) ≡ between at low high es
 between-longer at low high es later h =
     filter-append (λ e. nat_lt low (at e) && nat_le (at e) high) es later ∙ ap (λ l. between at low high es ++ l) (none low high later h) ∙ append-nil (between at low high es) where
-  none : (low high : ℕ) (later : List _) → AllByRecursion (λ e. high < at e) later → between at low high later ≡ []
-  none low high [] h = refl
-  none low high (e ∷ later) h =
-      let out : (nat_lt low (at e) && nat_le (at e) high) ≡ false = and_right (nat_lt low (at e)) (nat_le (at e) high) (lt-leb (at e) high h.0) in
-      rw out (none low high later h.1)
+      none : (low high : ℕ) (later : List _) → AllByRecursion (λ e. high < at e) later → between at low high later ≡ []
+      none low high [] h = refl
+      none low high (e ∷ later) h =
+          let out : (nat_lt low (at e) && nat_le (at e) high) ≡ false = and_right (nat_lt low (at e)) (nat_le (at e) high) (lt-leb (at e) high h.0) in
+          rw out (none low high later h.1)
 
 later_above : {E : Type 0} (at : E → ℕ) (high t : ℕ) (later : List E) → high ≤ t → AllByRecursion (λ e. t < at e) later → AllByRecursion (λ e. high < at e) later
 later_above at high t later up h = AllByRecursion-weaker (λ e. t < at e) (λ e. high < at e) (λ e k. let k' : t < at e = k in omega arith) later h
 
-longer : {E : Type 0} (at : E → ℕ) (low high t : ℕ) (es later : List E) → high ≤ t → AllByRecursion (λ e. t < at e) later → between at low high (es ++ later) ≡ between at low high es
+pub longer : {E : Type 0} (at : E → ℕ) (low high t : ℕ) (es later : List E) → high ≤ t → AllByRecursion (λ e. t < at e) later → between at low high (es ++ later) ≡ between at low high es
 longer at low high t es later up h = between-longer at low high es later (later_above at high t later up h)
 
 longer_sendable : {E K : Type 0} (r : Room E K) (sends : ℕ → E → Bool) (stayed : ℕ → ℕ → Bool) (es later : List E) (t low high : ℕ) → high ≤ t → AllByRecursion (λ e. t < r.at e) later → AllByRecursion (λ e. sends t e ≡ r.sends t e) (between r.at 0 t es)
@@ -52,24 +37,24 @@ longer_sendable : {E K : Type 0} (r : Room E K) (sends : ℕ → E → Bool) (st
 longer_sendable r sends stayed es later t low high up h same =
     ap (filter (sends t)) (longer r.at low high t es later up h)
     ∙ filter-same (sends t) (r.sends t) (between r.at low high es)
-        (subst (AllByRecursion (λ e. sends t e ≡ r.sends t e)) (between-inner r.at low high 0 t es (omega arith) up)
-          (AllByRecursion-filter (λ e. sends t e ≡ r.sends t e) (λ e. nat_lt low (r.at e) && nat_le (r.at e) high) (between r.at 0 t es) same))
+    (subst (AllByRecursion (λ e. sends t e ≡ r.sends t e)) (between-inner r.at low high 0 t es (omega arith) up)
+    (AllByRecursion-filter (λ e. sends t e ≡ r.sends t e) (λ e. nat_lt low (r.at e) && nat_le (r.at e) high) (between r.at 0 t es) same))
 
 longer_break : {E K : Type 0} (r : Room E K) (sends : ℕ → E → Bool) (stayed : ℕ → ℕ → Bool) (es later : List E) (t low high : ℕ) → high ≤ t → AllByRecursion (λ e. t < r.at e) later → AllByRecursion (λ e. sends t e ≡ r.sends t e) (between r.at 0 t es)
     → break_at (judged_by r sends stayed) (es ++ later) t low high ≡ break_at r es t low high
 longer_break r sends stayed es later t low high up h same =
     ap (last_at r.at low)
-      (ap (last_of (λ e. r.keeps e && not (sends t e))) (longer r.at low high t es later up h)
-      ∙ last_of-same (λ e. r.keeps e && not (sends t e)) (λ e. r.keeps e && not (r.sends t e)) (between r.at low high es)
-          (AllByRecursion-weaker (λ e. sends t e ≡ r.sends t e) (λ e. (r.keeps e && not (sends t e)) ≡ (r.keeps e && not (r.sends t e))) (λ e k. ap (λ b. r.keeps e && not b) k) (between r.at low high es)
-            (subst (AllByRecursion (λ e. sends t e ≡ r.sends t e)) (between-inner r.at low high 0 t es (omega arith) up)
-              (AllByRecursion-filter (λ e. sends t e ≡ r.sends t e) (λ e. nat_lt low (r.at e) && nat_le (r.at e) high) (between r.at 0 t es) same))))
+    (ap (last_of (λ e. r.keeps e && not (sends t e))) (longer r.at low high t es later up h)
+    ∙ last_of-same (λ e. r.keeps e && not (sends t e)) (λ e. r.keeps e && not (r.sends t e)) (between r.at low high es)
+    (AllByRecursion-weaker (λ e. sends t e ≡ r.sends t e) (λ e. (r.keeps e && not (sends t e)) ≡ (r.keeps e && not (r.sends t e))) (λ e k. ap (λ b. r.keeps e && not b) k) (between r.at low high es)
+    (subst (AllByRecursion (λ e. sends t e ≡ r.sends t e)) (between-inner r.at low high 0 t es (omega arith) up)
+    (AllByRecursion-filter (λ e. sends t e ≡ r.sends t e) (λ e. nat_lt low (r.at e) && nat_le (r.at e) high) (between r.at 0 t es) same))))
 
 longer_shown : {E K : Type 0} (r : Room E K) (sends : ℕ → E → Bool) (stayed : ℕ → ℕ → Bool) (es later : List E) (t : ℕ) (xs : List E) → AllByRecursion (λ e. t < r.at e) later
     → map (shown (judged_by r sends stayed) (es ++ later) t) xs ≡ map (shown r es t) xs
 longer_shown r sends stayed es later t xs h =
     map-same (shown (judged_by r sends stayed) (es ++ later) t) (shown r es t)
-      (λ v. ap (λ l. cond (is_named r l (r.at v)) (r.red v) v) (between-longer r.at (r.at v) t es later h)) xs
+    (λ v. ap (λ l. cond (is_named r l (r.at v)) (r.red v) v) (between-longer r.at (r.at v) t es later h)) xs
 
 longer_state : {E K : Type 0} (r : Room E K) (sends : ℕ → E → Bool) (stayed : ℕ → ℕ → Bool) (es later : List E) (p t : ℕ) → p ≤ t → AllByRecursion (λ e. t < r.at e) later → state_list (judged_by r sends stayed) (es ++ later) p ≡ state_list r es p
 longer_state r sends stayed es later p t up h = ap (λ l. filter r.is_state (current r.same l)) (longer r.at 0 p t es later up h)
@@ -86,10 +71,8 @@ upto_cut false q t h = h
 
 cut_upto : {E K : Type 0} (r : Room E K) (es : List E) (after : Bool) (limit s t : ℕ) → cut r es after limit t s t ≤ t
 cut_upto r es after limit s t =
-    let low : ℕ = cond after s (break_at r es t s t) in
-    let passing : List _ = sendable r es t (cond after s (break_at r es t s t)) t in
     before_first-high r.at t (section r es after limit t s t)
-      (AllByRecursion-drop (λ e. r.at e ≤ t) (length (sendable r es t (cond after s (break_at r es t s t)) t) - limit) (sendable r es t (cond after s (break_at r es t s t)) t) (sendable_within r es t (cond after s (break_at r es t s t)) t))
+    (AllByRecursion-drop (λ e. r.at e ≤ t) (length (sendable r es t (cond after s (break_at r es t s t)) t) - limit) (sendable r es t (cond after s (break_at r es t s t)) t) (sendable_within r es t (cond after s (break_at r es t s t)) t))
 
 pub same_part : {E K : Type 0} → SamePart E K
 same_part {E = E} {K = K} r sends stayed es later after limit s t pick up h same =
@@ -99,8 +82,8 @@ same_part {E = E} {K = K} r sends stayed es later after limit s t pick up h same
     let sec : section r' long after limit t s t ≡ section r es after limit t s t = longer_section r sends stayed es later after limit s t up h same in
     let all : sendable r' long t s t ≡ sendable r es t s t = longer_sendable r sends stayed es later t s t (omega arith) h same in
     let state : state_part r' long (pick (section r' long after limit t s t)) (cond after t (before_first r.at t (section r' long after limit t s t))) ≡ state_part r es (pick (section r es after limit t s t)) (cond after t q) =
-          ap (λ x. state_part r' long (pick x) (cond after t (before_first r.at t x))) sec
-          ∙ ap (λ l. filter (pick (section r es after limit t s t)) (filter r.keeps l)) (longer_state r sends stayed es later (cond after t q) t (upto_cut after q t (cut_upto r es after limit s t)) h) in
+    ap (λ x. state_part r' long (pick x) (cond after t (before_first r.at t x))) sec
+    ∙ ap (λ l. filter (pick (section r es after limit t s t)) (filter r.keeps l)) (longer_state r sends stayed es later (cond after t q) t (upto_cut after q t (cut_upto r es after limit s t)) h) in
     let more : is_limited r' long after limit t s t ≡ is_limited r es after limit t s t = ap₂ (λ (a b : List E). nat_lt (length a) (length b)) sec all in
     let shown_state = longer_shown r sends stayed es later t (state_part r' long (pick (section r' long after limit t s t)) (cond after t (before_first r.at t (section r' long after limit t s t)))) h ∙ ap (map (shown r es t)) state in
     let shown_sent = longer_shown r sends stayed es later t (section r' long after limit t s t) h ∙ ap (map (shown r es t)) sec in
@@ -114,7 +97,7 @@ same_page {E = E} {K = K} r sends stayed es later limit g e low high up le in' h
     let xs : chunk r' long limit e low high ≡ chunk r es limit e low high = ap (last limit) all in
     let wanted : List E → E → Bool = λ x v. r.member (r.key v) && is_sender r x (r.key v) in
     let members : filter (wanted (chunk r' long limit e low high)) (state_list r' long g) ≡ filter (wanted (chunk r es limit e low high)) (state_list r es g) =
-          ap₂ (λ x l. filter (wanted x) l) xs (longer_state r sends stayed es later g e up h) in
+    ap₂ (λ x l. filter (wanted x) l) xs (longer_state r sends stayed es later g e up h) in
     let shown_members = longer_shown r sends stayed es later e (filter (wanted (chunk r' long limit e low high)) (state_list r' long g)) h ∙ ap (map (shown r es e)) members in
     let shown_sent = longer_shown r sends stayed es later e (chunk r' long limit e low high) h ∙ ap (map (shown r es e)) xs in
     λ i. record { more = nat_lt (length (xs i)) (length (all i)); end = before_first r.at high (xs i); members = cond r.lazy (shown_members i) []; sent = shown_sent i }

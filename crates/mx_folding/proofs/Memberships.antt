@@ -1,37 +1,21 @@
 -- What a client holds of a room after a reply, by the user's memberships at the two tokens.
-use Rattle.std.proofs.Common.{◌≡◌, ℕ, zero, suc, ◌+◌, ◌-◌, ◌<◌, ◌≤◌, Bool, true, false, cond, not, ◌&&◌, ◌||◌, ◌==◌, nat_lt, nat_le, ltb, leb, ◌⊎◌, List, [], ◌∷◌, ◌++◌, map, length, drop, Option, Some, None, is_some, option_map, filter, refl, ap, ap₂, sym, ◌∙◌, subst, inl, inr, ⊎_elim, arith, append_assoc, append-nil, ltb-true, ltb-false, leb-true, leb-false, lt-ltb, le-ltb, le-leb, eq-eqb, eqb-true, length-append}
-use Rattle.std.proofs.lemmas.Bool.{cases_Bool, and_parts, and_from, and_left, and_right, and_cases, or_parts, or_from, or_left, or_right, or_cases, true≢false, false≢true, cases_lt, both_ways, lt-leb, not-true, not-false, not_from_true, not_from_false, true_from_ne_false}
-use Rattle.std.proofs.lemmas.Bool.Decides.{nat_tests}
-use Rattle.std.proofs.lemmas.List.{map-append}
-use Rattle.std.proofs.lemmas.List.Elements.{filter-append}
-use Rattle.std.specs.List.{list_any, AllByRecursion, Contains}
-use Rattle.std.proofs.lemmas.List.Folds.{list_any-append}
+use Rattle.std.proofs.Common.{◌≡◌, ℕ, ◌<◌, ◌≤◌, Bool, true, false, cond, ◌&&◌, ◌||◌, nat_lt, nat_le, Option, Some, None, is_some, refl, ap, sym, ◌∙◌, subst, inl, inr, arith, ltb-false}
+use Rattle.std.proofs.lemmas.Bool.{cases_Bool, or_parts, false≢true, both_ways}
 use Rattle.std.specs.Option.{option_or}
-use Rattle.std.specs.Prelude.{⊤}
-use Rattle.mx_window.specs.Windows.{Ascends, between, before_first}
-use Rattle.mx_window.specs.Lasts.{last_of, last_at, last, current, keep_if}
-use Rattle.mx_window.proofs.Each.{AllByRecursion-map, AllByRecursion-append, AllByRecursion-front, AllByRecursion-back, AllByRecursion-weaker, AllByRecursion-both, AllByRecursion-every, AllByRecursion-filter, AllByRecursion-passed, AllByRecursion-none, AllByRecursion-at, AllByRecursion-contained, list_any-none, list_any-map, list_any-same, filter-weaker, filter-swap, filter-same, filter-none, map-map, map-same}
-use Rattle.mx_window.proofs.Intervals.{between-empty, between-none, between-split, between-inner, between-within, Ascends-filter, Ascends-between, Ascends-lower, Ascends-map}
-use Rattle.mx_window.proofs.Lasts.{option_or-none, option_or-assoc, last_of-append, last_of-filter, last_of-same, last_of-some, last_of-none, none-last_of, last_of-split, AllByRecursion-current, last_of-picked, last_of-map, is_some-last_of}
-use Rattle.mx_window.proofs.Sections.{last-between, after-last, list_any-filter, Ascends-after}
-use Rattle.mx_folding.specs.Rooms.{Room, IsRoom, StaysSent, state_at}
-use Rattle.mx_folding.specs.Sections.{sendable, break_at, section, cut, is_limited, chunk}
-use Rattle.mx_folding.specs.Redactions.{is_some_of, is_named, is_redacted, shown, redact_by}
-use Rattle.mx_folding.specs.Parts.{is_sender, state_list, state_part, is_omitted, picks, picks_new, Part, part_of, Page, page_of}
-use Rattle.mx_folding.specs.Clients.{Entry, Held, Open, held, ClientRoom, empty_room, put_all, put_new, gap_if, redact_entry, redacted_room, with_part, with_page}
-use Rattle.mx_folding.specs.Agreement.{pictured, filled, Rises, TimelineAgrees, StateAgrees, is_gap_before, is_owed, IsCopy, IsDue, RoomAgrees}
-use Rattle.mx_folding.proofs.Redacting.{redact_by-at, redact_by-has, redact_by-names, redact_by-wrote, shown-at, shown-has, shown-names, shown-wrote}
-use Rattle.mx_folding.proofs.Timelines.{sendable-stays, pictured-stays, pictured-split, filled-redact, Rises-order, Rises-around, Rises-redact, timeline_reply, timeline_page}
-use Rattle.mx_folding.proofs.Cuts.{Sent, section_sent, no_break, chunk_sent, shown_positions, sendable_ascends, sendable_within, shown_ascends, shown_within}
-use Rattle.mx_folding.proofs.States.{shown_last, wanted_last, part_last, section_last, state_reply, state_page, state_redact}
-use Rattle.mx_folding.proofs.Copies.{copy_at, named_redacted, due_later, due_redact, sent_copies, sent_due, is_named-append, is_named-redact}
-use Rattle.mx_folding.proofs.Owed.{held-append, held-redact, held_reply, held_page, owed_redact, owed_reply, owed_new, owed_late, owed_page}
-use Rattle.mx_folding.specs.Laws.{FoldsReply, FoldsNew, FoldsPage, is_cons, has_some, FoldsNothing, is_in_gap, HoldsTheRest}
-use Rattle.mx_folding.proofs.Replies.{contained_sendable, contained_state, named_early, map_some, or_some, folds_reply, folds_new}
+use Rattle.mx_window.specs.Windows.{between}
+use Rattle.mx_window.specs.Lasts.{last_of}
+use Rattle.mx_window.proofs.Each.{AllByRecursion-filter}
+use Rattle.mx_window.proofs.Intervals.{between-within}
+use Rattle.mx_window.proofs.Lasts.{last_of-some, last_of-split}
+use Rattle.mx_folding.specs.Parts.{picks, picks_new, Part, part_of}
+use Rattle.mx_folding.specs.Clients.{ClientRoom, empty_room, with_part}
+use Rattle.mx_folding.specs.Agreement.{RoomAgrees}
+use Rattle.mx_folding.specs.Laws.{has_some}
+use Rattle.mx_folding.proofs.Replies.{folds_reply, folds_new}
 use Rattle.std.specs.Option.{option_and_then}
 use Rattle.mx_folding.proofs.Rest.{folds_nothing}
 use Rattle.mx_folding.specs.Visible.{Membership, Join, Invite, Leave, Ban, is_join}
-use Rattle.mx_folding.specs.Stories.{Tokens, IsTokens, position, Story, own_at, joined_in, IsStory, Standing, Out, In, Asked, standing_by, standing_of, standing, Told, Nothing, Anew, More, Invited, Left, Sync, told_joined, told_invited, told_left, told_by, told_of, told, Holding, more_joined, with_told, Holds, HoldingAgrees, IsNext, IsBase, FoldsRoom}
+use Rattle.mx_folding.specs.Stories.{Tokens, IsTokens, Story, own_at, joined_in, IsStory, Out, In, standing_by, standing_of, Nothing, Anew, More, Sync, told_joined, told_by, told_of, Holding, more_joined, with_told, Holds, HoldingAgrees, FoldsRoom}
 
 -- the last own event up to a position, if it doesn't come after an earlier one, was the last there
 stood_before : {E : Type 0} (at : E → ℕ) (s : ℕ) (new old : Option E) (e : E) → ◌≡◌ {A = Option E} (option_or new old) (Some e) → ((x : E) → ◌≡◌ {A = Option E} new (Some x) → s < at x) → at e ≤ s → ◌≡◌ {A = Option E} old (Some e)
@@ -57,7 +41,7 @@ own_stood k g s t e story up is old =
 own_known : {E K V D T : Type 0} (k : Tokens T) (g : Story E K V D T) (t : ℕ) (e : E) → IsStory k g → ◌≡◌ {A = Option E} (own_at g t) (Some e) → is_some (g.membership e) ≡ true
 own_known k g t e story is =
     let facts = last_of-some (λ e. g.is_own e ≡ true → is_some (g.membership e) ≡ true) g.is_own (between g.room.at 0 t g.events) e
-          (AllByRecursion-filter (λ e. g.is_own e ≡ true → is_some (g.membership e) ≡ true) (λ e. nat_lt 0 (g.room.at e) && nat_le (g.room.at e) t) g.events story.kinds) is in
+    (AllByRecursion-filter (λ e. g.is_own e ≡ true → is_some (g.membership e) ≡ true) (λ e. nat_lt 0 (g.room.at e) && nat_le (g.room.at e) t) g.events story.kinds) is in
     facts.1 facts.0
 
 -- what is held agrees, by how the user stands at its token, where the filter picks the room
@@ -95,31 +79,31 @@ module _ {E K V D T : Type 0} (k : Tokens T) (tokens : IsTokens k) (g : Story E 
   told_more i j front front' had next at_i at_j later upto h =
       let room : ClientRoom E K = h.0 in
       let folded : RoomAgrees g.room g.events b (k.event j) front' (with_part g.room ask.after (k.event i) (k.event j) (more i j) room) =
-            folds_reply g.room g.events story.room ask.after ask.limit (cond ask.full 0 (k.event i)) (k.event i) (k.event j) front front' b ask.redundant heroes room (story.stays (k.event i) at_i)
-              (below ask.full (k.event i)) (tokens.rises i j next) later upto h.3 in
+      folds_reply g.room g.events story.room ask.after ask.limit (cond ask.full 0 (k.event i)) (k.event i) (k.event j) front front' b ask.redundant heroes room (story.stays (k.event i) at_i)
+      (below ask.full (k.event i)) (tokens.rises i j next) later upto h.3 in
       elim (cases_Bool (has_some (more i j) || g.rest.differs i j)) [
-          inl some ↦ rw some (
-            with_part g.room ask.after (k.event i) (k.event j) (more i j) room,
-            g.rest.changed h.1 (g.rest.delta i j),
-            ap (more_joined g ask.after (k.event i) (k.event j) (more i j) (g.rest.delta i j)) h.2,
-            folded,
-            ap (λ v. g.rest.changed v (g.rest.delta i j)) h.4 ∙ story.rest.folds i j next at_i at_j,
-            refl,
-          )
+        | inl some ↦ rw some (
+          with_part g.room ask.after (k.event i) (k.event j) (more i j) room,
+          g.rest.changed h.1 (g.rest.delta i j),
+          ap (more_joined g ask.after (k.event i) (k.event j) (more i j) (g.rest.delta i j)) h.2,
+          folded,
+          ap (λ v. g.rest.changed v (g.rest.delta i j)) h.4 ∙ story.rest.folds i j next at_i at_j,
+          refl,
+        )
         | inr none ↦
             let parts = or_parts (has_some (more i j)) (g.rest.differs i j) none in
             rw none (
-            room,
-            h.1,
-            h.2,
-            subst (RoomAgrees g.room g.events b (k.event j) front') (folds_nothing g.room ask.after (k.event i) (k.event j) (more i j) room parts.0) folded,
-            h.4 ∙ sym (story.rest.still i j next at_i at_j parts.1),
-            h.5,
-          )
+              room,
+              h.1,
+              h.2,
+              subst (RoomAgrees g.room g.events b (k.event j) front') (folds_nothing g.room ask.after (k.event i) (k.event j) (more i j) room parts.0) folded,
+              h.4 ∙ sym (story.rest.still i j next at_i at_j parts.1),
+              h.5,
+            )
       ] where
-    below : (full : Bool) (s : ℕ) → cond full 0 s ≤ s
-    below true s = omega arith
-    below false s = omega arith
+        below : (full : Bool) (s : ℕ) → cond full 0 s ≤ s
+        below true s = omega arith
+        below false s = omega arith
 
   -- the first reply, by the membership at its token
   first_kind : (j : T) (front : ℕ) (had : Holding E K V) (other : Part E) (e : E) (m : Option Membership) → b ≡ k.event j → k.event j ≤ front → (had.joined ≡ None) × (had.invited ≡ None)
@@ -141,7 +125,7 @@ module _ {E K V D T : Type 0} (k : Tokens T) (tokens : IsTokens k) (g : Story E 
       → HoldingAgrees k g b (Some i) front had → Holds k g b j front' In (with_told g ask.after (k.event i) (k.event j) (told_joined k g (Some i) j (anew j) (more i j)) had)
   later_join i j front front' had next base at_j later upto picked agrees =
       elim (cases_Bool (joined_in g (k.event i))) [
-          inl at_i ↦ rw at_i (told_more i j front front' had next at_i at_j later upto (join_stands k g b i front had (own_at g (k.event i)) at_i (holds_as k g b i front had (own_at g (k.event i)) picked refl agrees)))
+        | inl at_i ↦ rw at_i (told_more i j front front' had next at_i at_j later upto (join_stands k g b i front had (own_at g (k.event i)) at_i (holds_as k g b i front had (own_at g (k.event i)) picked refl agrees)))
         | inr away ↦ rw away (told_anew j front' (k.event i) had upto
             (λ stayed. absurd (both_ways (joined_in g (k.event i)) away (story.stayed b (k.event i) base (story.room.stayed_less b (k.event i) (k.event j) base (tokens.rises i j next) stayed)))))
       ]
@@ -151,7 +135,7 @@ module _ {E K V D T : Type 0} (k : Tokens T) (tokens : IsTokens k) (g : Story E 
       → HoldingAgrees k g b (Some i) front had → nat_lt (k.event i) (g.room.at e) ≡ false → Holds k g b i front (standing_by m (g.stripped e)) had
   stood i j front had e m next is kind picked agrees old =
       subst (λ m. Holds k g b i front (standing_by m (g.stripped e)) had) kind
-        (holds_as k g b i front had (Some e) picked (own_stood k g (k.event i) (k.event j) e story (tokens.rises i j next) is old) agrees)
+      (holds_as k g b i front had (Some e) picked (own_stood k g (k.event i) (k.event j) e story (tokens.rises i j next) is old) agrees)
 
   later_kind : (i j : T) (front front' : ℕ) (had : Holding E K V) (e : E) (m : Option Membership) → k.before i j ≡ true → b ≤ k.event i → front ≤ front' → k.event j ≤ front' → g.picked ≡ true
       → ◌≡◌ {A = Option E} (own_at g (k.event j)) (Some e) → ◌≡◌ {A = Option Membership} (g.membership e) m → HoldingAgrees k g b (Some i) front had
@@ -162,17 +146,17 @@ module _ {E K V D T : Type 0} (k : Tokens T) (tokens : IsTokens k) (g : Story E 
       later_join i j front front' had next base (ap (λ o. is_join (option_and_then g.membership o)) is ∙ ap is_join kind) later upto picked agrees
   later_kind i j front front' had e (Some Invite) next base later upto picked is kind agrees =
       elim (cases_Bool (nat_lt (k.event i) (g.room.at e))) [
-          inl new ↦ rw new (refl, refl)
+        | inl new ↦ rw new (refl, refl)
         | inr old ↦ rw old (stood i j front had e (Some Invite) next is kind picked agrees old)
       ]
   later_kind i j front front' had e (Some Leave) next base later upto picked is kind agrees =
       elim (cases_Bool (nat_lt (k.event i) (g.room.at e))) [
-          inl new ↦ rw new (refl, refl)
+        | inl new ↦ rw new (refl, refl)
         | inr old ↦ rw old (stood i j front had e (Some Leave) next is kind picked agrees old)
       ]
   later_kind i j front front' had e (Some Ban) next base later upto picked is kind agrees =
       elim (cases_Bool (nat_lt (k.event i) (g.room.at e))) [
-          inl new ↦ rw new (refl, refl)
+        | inl new ↦ rw new (refl, refl)
         | inr old ↦ rw old (stood i j front had e (Some Ban) next is kind picked agrees old)
       ]
 
@@ -182,12 +166,12 @@ module _ {E K V D T : Type 0} (k : Tokens T) (tokens : IsTokens k) (g : Story E 
   later_by i j front front' had false own next base later upto picked is agrees = rw picked at agrees
   later_by i j front front' had true None next base later upto picked is agrees =
       holds_as k g b i front had None picked (none_before (last_of g.is_own (between g.room.at (k.event i) (k.event j) g.events)) (own_at g (k.event i))
-        (sym (own_split k g (k.event i) (k.event j) story (tokens.rises i j next)) ∙ is)) agrees
+      (sym (own_split k g (k.event i) (k.event j) story (tokens.rises i j next)) ∙ is)) agrees
   later_by i j front front' had true (Some e) next base later upto picked is agrees = later_kind i j front front' had e (g.membership e) next base later upto picked is refl agrees
 
 pub folds_room : {E K V D T : Type 0} → FoldsRoom E K V D T
 folds_room k tokens g story ask heroes b None j front front' had next base later upto agrees =
     first_by k tokens g story ask heroes b j front' had
-      (part_of g.room g.events ask.after ask.limit 0 (k.event j) (picks g.room ask.redundant b 0 (cond ask.full 0 0) heroes)) g.picked (own_at g (k.event j)) base upto agrees
+    (part_of g.room g.events ask.after ask.limit 0 (k.event j) (picks g.room ask.redundant b 0 (cond ask.full 0 0) heroes)) g.picked (own_at g (k.event j)) base upto agrees
 folds_room k tokens g story ask heroes b (Some i) j front front' had next base later upto agrees =
     later_by k tokens g story ask heroes b i j front front' had g.picked (own_at g (k.event j)) next base later upto refl refl agrees

@@ -1,13 +1,13 @@
 -- Rooms of events as they are: with type, state key, sender and content (Client-Server API, Events). What is read of a
 -- content is left open.
-use Rattle.std.specs.Prelude.{◌≡◌, ℕ, ◌<◌, ◌≤◌, Bool, true, cond, ◌&&◌, List, [], ◌∷◌, ◌++◌, Option, Some, None, is_some, is_none}
+use Rattle.std.specs.Prelude.{◌≡◌, ℕ, ◌<◌, Bool, true, cond, ◌&&◌, List, [], ◌∷◌, ◌++◌, Option, Some, None, is_some, is_none}
 use Rattle.std.specs.List.{AllByRecursion}
 use Rattle.std.specs.Str.{bytes_eq}
 use Rattle.mx_window.specs.Windows.{Ascends}
 use Rattle.mx_folding.specs.Rooms.{Room}
 use Rattle.mx_folding.specs.Visible.{Membership, HistoryVisibility, Viewer, is_visible, joined_at, stayed_joined}
-use Rattle.mx_folding.specs.Stories.{Tokens, IsTokens, Rest, FoldsRest, Story, IsStory, Sync, told}
-use Rattle.mx_folding.specs.Chains.{Client, new_client, Turn, after_turns, AreTurns, Agrees}
+use Rattle.mx_folding.specs.Stories.{Tokens, IsTokens, Rest, FoldsRest, Story, IsStory, Sync, told, IsNext, IsBase}
+use Rattle.mx_folding.specs.Chains.{new_client, Turn, after_turns, AreTurns, Agrees}
 
 -- `m.room.member`
 unfoldable pub member_type : List ℕ
@@ -135,3 +135,13 @@ abbrev pub EventsFold : Type 0 → Type 0 → Type 0 → Type 0 → Type 0 → T
 EventsFold X C V D T = (k : Tokens T) → IsTokens k → (m : Reading C) → IsReading m → (user : List ℕ) (logs : X → Log C V D T) → ((x : X) → IsLog k m user (logs x)) → (turns : List (Turn X (Event C) Key T))
     → AreTurns k (λ x. story_of m user (logs x)) (new_client X (Event C) Key V T) turns
     → Agrees k (λ x. story_of m user (logs x)) (after_turns k (λ x. story_of m user (logs x)) (new_client X (Event C) Key V T) turns)
+
+-- the log, gone on with later events
+abbrev pub longer_log : {C V D T : Type 0} → Log C V D T → List (Event C) → Log C V D T
+longer_log log later = record log { events = log.events ++ later }
+
+-- What a reply of T = j says of a room is the same over a list that goes on with events after j.
+abbrev pub SameTold : Type 0 → Type 0 → Type 0 → Type 0 → Type 0
+SameTold C V D T = (k : Tokens T) → IsTokens k → (m : Reading C) (user : List ℕ) (log : Log C V D T) (later : List (Event C)) (ask : Sync) (heroes : Key → Bool) (b : ℕ) (since : Option T) (j : T)
+    → IsNext k since j → IsBase k b since j → AllByRecursion (λ (e : Event C). k.event j < e.at) later
+    → told k (story_of m user (longer_log log later)) ask heroes b since j ≡ told k (story_of m user log) ask heroes b since j

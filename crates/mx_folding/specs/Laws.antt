@@ -1,5 +1,5 @@
 -- The folding law of one room: what a client holds after it has put a reply's part or a page into its room.
-use Rattle.std.specs.Prelude.{◌≡◌, ℕ, ◌≤◌, Bool, true, false, not, ◌&&◌, ◌||◌, cond, List, [], ◌∷◌, ◌++◌, map, Option, nat_lt, nat_le}
+use Rattle.std.specs.Prelude.{◌≡◌, ℕ, ◌≤◌, Bool, true, false, not, ◌&&◌, ◌||◌, List, [], ◌∷◌, ◌++◌, map, Option, nat_lt, nat_le}
 use Rattle.std.specs.List.{filter, list_any}
 use Rattle.std.specs.Option.{option_map}
 use Rattle.mx_folding.specs.Rooms.{Room, IsRoom, StaysSent, state_at}

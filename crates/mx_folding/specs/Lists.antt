@@ -20,7 +20,7 @@ AreApart same (p ∷ ps) = (has_id same p.0 ps ≡ false) × AreApart same ps
 abbrev pub all_told : {I D A : Type 0} → (I → I → Bool) → (Option D → Option A → Option A) → List (I × D) → List (I × A) → List (I × A)
 all_told same step told had =
     filter_map (λ p. option_map (λ a. (p.0, a)) (step (at_id same p.0 told) (Some p.1))) had
-      ++ filter_map (λ p. option_map (λ a. (p.0, a)) (cond (has_id same p.0 had) None (step (Some p.1) None))) told
+    ++ filter_map (λ p. option_map (λ a. (p.0, a)) (cond (has_id same p.0 had) None (step (Some p.1) None))) told
 
 -- Under each id stands what the step makes of what was told of it and what was held there. Ids that are the same are
 -- the same to all others, and of an id that was neither told of nor held the step makes nothing.

@@ -70,7 +70,7 @@ joins_later v es p front = list_any (λ e. v.is_own e && is_join (v.membership e
 abbrev pub is_visible : {E : Type 0} → Viewer E → List E → ℕ → E → Bool
 is_visible v es front e =
     allows_after v (joins_later v es (v.at e) front) (between v.at 0 (v.at e) es)
-      || ((v.is_own e || v.is_setting e) && allows_after v (joins_later v es (v.at e) front) (between v.at 0 (v.at e - 1) es))
+    || ((v.is_own e || v.is_setting e) && allows_after v (joins_later v es (v.at e) front) (between v.at 0 (v.at e - 1) es))
 
 abbrev pub joined_at : {E : Type 0} → Viewer E → List E → ℕ → Bool
 joined_at v es p = is_join (membership_after v (between v.at 0 p es))
