@@ -1,15 +1,16 @@
 -- A section and a chunk are the sendable events of a window, and what is known of it.
-use Rattle.std.proofs.Common.{◌≡◌, ℕ, ◌<◌, ◌≤◌, Bool, true, false, not, ◌&&◌, nat_lt, nat_le, List, [], ◌∷◌, ◌++◌, map, length, refl, ap, sym, ◌∙◌, subst, arith, ltb-false, length-append}
+use Rattle.std.proofs.Common.{◌↔◌, ◌≡◌, ℕ, ◌-◌, ◌<◌, ◌≤◌, Bool, true, false, cond, not, ◌&&◌, nat_lt, nat_le, List, [], ◌∷◌, ◌++◌, map, length, refl, ap, sym, ◌∙◌, subst, arith, ltb-false, le-ltb, length-append}
 use Rattle.std.proofs.lemmas.Bool.{true≢false, false≢true}
 use Rattle.std.specs.List.{list_any, AllByRecursion}
 use Rattle.mx_window.specs.Windows.{Ascends, between, before_first}
 use Rattle.mx_window.specs.Lasts.{last}
-use Rattle.mx_window.proofs.Each.{AllByRecursion-map, AllByRecursion-weaker, AllByRecursion-filter, AllByRecursion-none, map-map, map-same}
+use Rattle.mx_window.proofs.Each.{AllByRecursion-map, AllByRecursion-weaker, AllByRecursion-filter, AllByRecursion-passed, AllByRecursion-none, map-map, map-same}
 use Rattle.mx_window.proofs.Intervals.{between-inner, between-within, Ascends-filter, Ascends-between, Ascends-map}
-use Rattle.mx_window.proofs.Sections.{last-between, after-last, list_any-filter}
+use Rattle.mx_window.proofs.Sections.{last-between, after-last, list_any-filter, AllByRecursion-drop}
 use Rattle.mx_folding.specs.Rooms.{Room, IsRoom}
 use Rattle.mx_folding.specs.Sections.{sendable, break_at, section, cut, is_limited, chunk}
 use Rattle.mx_folding.specs.Redactions.{shown}
+use Rattle.mx_folding.specs.Laws.{SectionIsWindow, SentIsVisible}
 use Rattle.mx_folding.proofs.Timelines.{sendable-split}
 use Rattle.mx_folding.proofs.Redacting.{shown-at}
 
@@ -103,3 +104,25 @@ pub shown_within : {E K : Type 0} (r : Room E K) (es : List E) (front high : ℕ
 shown_within r es front high xs room upto =
     AllByRecursion-map (λ e. r.at e ≤ high) (shown r es front) xs
     (AllByRecursion-weaker (λ e. r.at e ≤ high) (λ e. r.at (shown r es front e) ≤ high) (λ e h. subst (λ x. x ≤ high) (sym (shown-at r es room front e)) h) xs upto)
+
+none_more : {A : Type 0} (xs ys zs sent : List A) → zs ≡ xs ++ ys → sent ≡ ys → xs ≡ [] → nat_lt (length sent) (length zs) ≡ false
+none_more xs ys zs sent e f none = le-ltb (length sent) (length zs) (omega (arith, ap length e, ap length f, length-append xs ys, ap length none))
+
+pub section_is_window : {E K : Type 0} → SectionIsWindow E K
+section_is_window r es room after limit front low high q h is =
+    let facts : Sent r es front low high (cut r es after limit front low high) (section r es after limit front low high) (is_limited r es after limit front low high) = section_sent r es after limit front low high room h in
+    subst (λ x. (section r es after limit front low high ≡ sendable r es front x high) × (low ≤ x) × (x ≤ high) × ((is_limited r es after limit front low high ≡ false) ↔ (sendable r es front low x ≡ []))) (sym is) (
+      facts.is,
+      facts.low_q,
+      facts.q_high,
+      (
+        facts.none,
+        none_more (sendable r es front low (cut r es after limit front low high)) (sendable r es front (cut r es after limit front low high) high) (sendable r es front low high) (section r es after limit front low high)
+            (sendable-split r es front low (cut r es after limit front low high) high room facts.low_q facts.q_high) facts.is,
+      ),
+    )
+
+pub sent_is_visible : {E K : Type 0} → SentIsVisible E K
+sent_is_visible r es after limit front low high =
+    let from : ℕ = cond after low (break_at r es front low high) in
+    AllByRecursion-drop (λ e. r.sends front e ≡ true) (length (sendable r es front from high) - limit) (sendable r es front from high) (AllByRecursion-passed (r.sends front) (between r.at from high es))

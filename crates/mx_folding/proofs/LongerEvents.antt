@@ -1,5 +1,5 @@
 -- What a reply says over a list of events that goes on.
-use Rattle.std.proofs.Common.{◌≡◌, ℕ, ◌-◌, ◌<◌, ◌≤◌, Bool, cond, not, ◌&&◌, ◌||◌, nat_lt, nat_le, List, ◌++◌, Option, Some, None, refl, ap, ap₂, ◌∙◌, arith}
+use Rattle.std.proofs.Common.{option_and_then, ◌≡◌, ℕ, ◌-◌, ◌<◌, ◌≤◌, Bool, cond, not, ◌&&◌, ◌||◌, nat_lt, nat_le, List, ◌++◌, Option, Some, None, refl, ap, ap₂, ◌∙◌, arith}
 use Rattle.std.specs.List.{list_any, AllByRecursion}
 use Rattle.mx_window.specs.Windows.{between}
 use Rattle.mx_window.specs.Lasts.{last_of}
@@ -7,7 +7,6 @@ use Rattle.mx_window.proofs.Each.{AllByRecursion-weaker}
 use Rattle.mx_window.proofs.Intervals.{between-within}
 use Rattle.mx_folding.specs.Parts.{is_sender, picks, picks_new, Part, part_of}
 use Rattle.mx_folding.specs.Laws.{has_some}
-use Rattle.std.specs.Option.{option_and_then}
 use Rattle.mx_folding.proofs.Longer.{longer, same_part}
 use Rattle.mx_folding.specs.Visible.{Membership, Join, Invite, Leave, Ban, Viewer, is_join, membership_after, allows_after, is_visible, stayed_joined}
 use Rattle.mx_folding.specs.Stories.{Tokens, IsTokens, position, Story, own_at, joined_in, Nothing, Anew, More, Sync, told_by, told_of, told, IsNext, IsBase}
@@ -45,9 +44,9 @@ module _ {C V D T : Type 0} (k : Tokens T) (tokens : IsTokens k) (m : Reading C)
       (between-within short_story.room.at 0 (k.event j) log.events)
 
   same_pick : (after : Bool) (limit s : ℕ) (pick : List (Event C) → Event C → Bool) → s ≤ k.event j
-      → part_of long_story.room long_story.events after limit s (k.event j) pick ≡ part_of short_story.room short_story.events after limit s (k.event j) pick
+      → part_of long_story.room long_story.events after limit (k.event j) s (k.event j) pick ≡ part_of short_story.room short_story.events after limit (k.event j) s (k.event j) pick
   same_pick after limit s pick up =
-      same_part short_story.room (λ front e. long_story.room.sends front e) (λ b t. long_story.room.stayed b t) log.events later after limit s (k.event j) pick up after_j same_sends
+      same_part short_story.room (λ front e. long_story.room.sends front e) (λ b t. long_story.room.stayed b t) log.events later after limit (k.event j) s (k.event j) pick up (omega arith) after_j same_sends
 
   -- what is picked depends on the list by whether the user stayed joined
   abbrev picks_by : Bool → ℕ → ℕ → ℕ → (Key → Bool) → Bool → List (Event C) → Event C → Bool
@@ -85,14 +84,14 @@ module _ {C V D T : Type 0} (k : Tokens T) (tokens : IsTokens k) (m : Reading C)
       let stayed : long_story.room.stayed b s ≡ short_story.room.stayed b s = same_stayed (viewer_of m user) log.events later b s t upto.0 upto.1 after_j in
       let anew = same_pick ask.after ask.limit 0 (picks_new long_story.room heroes) (omega arith) in
       let more = same_pick ask.after ask.limit s (picks_by ask.redundant b s from heroes (long_story.room.stayed b s)) upto.1
-      ∙ ap (λ x. part_of short_story.room short_story.events ask.after ask.limit s t (picks_by ask.redundant b s from heroes x)) stayed in
+      ∙ ap (λ x. part_of short_story.room short_story.events ask.after ask.limit t s t (picks_by ask.redundant b s from heroes x)) stayed in
       let own : own_at long_story t ≡ own_at short_story t = ap (last_of long_story.is_own) (longer short_story.room.at 0 t t log.events later (omega arith) after_j) in
       ap (λ x. cond log.picked x Nothing)
       (ap₂ (λ x y. told_of k long_story since j ask.leave x y (own_at long_story t)) anew more
-      ∙ ap (λ o. told_of k long_story since j ask.leave (part_of short_story.room short_story.events ask.after ask.limit 0 t (picks_new short_story.room heroes))
-      (part_of short_story.room short_story.events ask.after ask.limit s t (picks short_story.room ask.redundant b s from heroes)) o) own
-      ∙ same_of since ask.leave (part_of short_story.room short_story.events ask.after ask.limit 0 t (picks_new short_story.room heroes))
-      (part_of short_story.room short_story.events ask.after ask.limit s t (picks short_story.room ask.redundant b s from heroes)) (own_at short_story t) next)
+      ∙ ap (λ o. told_of k long_story since j ask.leave (part_of short_story.room short_story.events ask.after ask.limit t 0 t (picks_new short_story.room heroes))
+      (part_of short_story.room short_story.events ask.after ask.limit t s t (picks short_story.room ask.redundant b s from heroes)) o) own
+      ∙ same_of since ask.leave (part_of short_story.room short_story.events ask.after ask.limit t 0 t (picks_new short_story.room heroes))
+      (part_of short_story.room short_story.events ask.after ask.limit t s t (picks short_story.room ask.redundant b s from heroes)) (own_at short_story t) next)
 
 pub same_told : {C V D T : Type 0} → SameTold C V D T
 same_told k tokens m user log later ask heroes b since j next base after_j = same_in k tokens m user log later j after_j ask heroes b since next base

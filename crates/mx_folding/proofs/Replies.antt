@@ -84,7 +84,7 @@ pub folds_part : {E K : Type 0} (r : Room E K) (es : List E) (after : Bool) (lim
     → TimelineAgrees r es s room.timeline → StateAgrees r es s owed room.state
     → AllByRecursion (IsDue r es front (is_named r (held room.timeline))) (held room.timeline)
     → ((k : K) (c : E) → ◌≡◌ {A = Option E} (room.state k) (Some c) → IsDue r es front (is_named r (held room.timeline)) c)
-    → RoomAgrees r es b t front' (with_part r after s t (part_of r es after limit s t pick) room)
+    → RoomAgrees r es b t front' (with_part r after s t (part_of r es after limit t s t pick) room)
 folds_part {E = E} r es after limit s t front front' b pick owed room is stays up later upto first second timeline state held_due state_due =
     let sec : List E = section r es after limit t s t in
     let q : ℕ = cut r es after limit t s t in

@@ -9,11 +9,12 @@ use Rattle.mx_folding.specs.Parts.{part_of, page_of}
 abbrev pub judged_by : {E K : Type 0} → Room E K → (ℕ → E → Bool) → (ℕ → ℕ → Bool) → Room E K
 judged_by r sends stayed = record r { sends = sends; stayed = stayed }
 
--- A reply's part for (s, t] is the same over a list with later events, which judges the events up to t alike.
+-- A reply's part for (s, t], judged at a front, is the same over a list that goes on with events after the front, and that
+-- judges those up to it alike.
 abbrev pub SamePart : Type 0 → Type 0 → Type 0
-SamePart E K = (r : Room E K) (sends : ℕ → E → Bool) (stayed : ℕ → ℕ → Bool) (es later : List E) (after : Bool) (limit s t : ℕ) (pick : List E → E → Bool)
-    → s ≤ t → AllByRecursion (λ e. t < r.at e) later → AllByRecursion (λ e. sends t e ≡ r.sends t e) (between r.at 0 t es)
-    → part_of (judged_by r sends stayed) (es ++ later) after limit s t pick ≡ part_of r es after limit s t pick
+SamePart E K = (r : Room E K) (sends : ℕ → E → Bool) (stayed : ℕ → ℕ → Bool) (es later : List E) (after : Bool) (limit front s t : ℕ) (pick : List E → E → Bool)
+    → s ≤ t → t ≤ front → AllByRecursion (λ e. front < r.at e) later → AllByRecursion (λ e. sends front e ≡ r.sends front e) (between r.at 0 front es)
+    → part_of (judged_by r sends stayed) (es ++ later) after limit front s t pick ≡ part_of r es after limit front s t pick
 
 -- So is a page of (low, high] at a front e.
 abbrev pub SamePage : Type 0 → Type 0 → Type 0

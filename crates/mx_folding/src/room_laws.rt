@@ -1,6 +1,6 @@
 //! The folding law of one room, and what agreement says.
 
-ghost use Rattle.mx_folding.specs.Laws.{FoldsReply, FoldsNew, FoldsPage, FoldsNothing, HoldsTheRest, HoldsTheState, HoldsAll};
+ghost use Rattle.mx_folding.specs.Laws.{FoldsReply, FoldsNew, FoldsPage, FoldsNothing, HoldsTheRest, HoldsTheState, HoldsAll, SectionIsWindow, SentIsVisible};
 
 /// A client's room that agrees with the picture at `s` agrees with that at `t`, after the part that a reply sends for
 /// the window (s, t] (Client-Server API, Syncing).
@@ -38,4 +38,15 @@ pub fn holds_all<E, K>()
 /// member events with them (Client-Server API, Lazy-loading room members).
 pub fn holds_the_state<E, K>()
     ensures { HoldsTheState E K }
+{}
+
+/// A section is what may be sent of the window above its cut, and the reply is limited exactly where something may be
+/// sent of the window up to the cut.
+pub fn section_is_window<E, K>()
+    ensures { SectionIsWindow E K }
+{}
+
+/// Each event of a section is visible to the user at the front, and the timeline filter passes it.
+pub fn sent_is_visible<E, K>()
+    ensures { SentIsVisible E K }
 {}

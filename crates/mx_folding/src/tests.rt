@@ -3,7 +3,7 @@
 use crate::{
     all_told_at, chains_fold, events_are_story, events_fold, folds_new, folds_nothing, folds_page,
     folds_reply, folds_room, holds_all, holds_the_rest, holds_the_state, same_page, same_part,
-    same_told, stays_visible,
+    same_told, section_is_window, sent_is_visible, stays_visible,
 };
 
 #[test]
@@ -20,6 +20,8 @@ fn laws_hold_of_numbers() {
     all_told_at::<u64, u64, u64>();
     same_part::<u64, u64>();
     same_page::<u64, u64>();
+    section_is_window::<u64, u64>();
+    sent_is_visible::<u64, u64>();
     stays_visible::<u64>();
     events_are_story::<u64, u64, u64, u64>();
     events_fold::<u64, u64, u64, u64, u64>();
