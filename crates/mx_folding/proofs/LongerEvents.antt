@@ -7,10 +7,12 @@ use Rattle.mx_window.proofs.Each.{AllByRecursion-weaker}
 use Rattle.mx_window.proofs.Intervals.{between-within}
 use Rattle.mx_folding.specs.Parts.{is_sender, picks, picks_new, Part, part_of}
 use Rattle.mx_folding.specs.Laws.{has_some}
-use Rattle.mx_folding.proofs.Longer.{longer, same_part}
+use Rattle.mx_folding.proofs.Longer.{same_page, longer, same_part}
 use Rattle.mx_folding.specs.Visible.{Membership, Join, Invite, Leave, Ban, Viewer, is_join, membership_after, allows_after, is_visible, stayed_joined}
 use Rattle.mx_folding.specs.Stories.{Tokens, IsTokens, position, Story, own_at, joined_in, Nothing, Anew, More, Sync, told_by, told_of, told, IsNext, IsBase}
-use Rattle.mx_folding.specs.Events.{Event, Reading, Key, viewer_of, Log, story_of, longer_log, SameTold}
+use Rattle.mx_folding.specs.Longer.{SameVisible}
+use Rattle.mx_folding.specs.Rooms.{Room}
+use Rattle.mx_folding.specs.Events.{SamePaged, room_of, Event, Reading, Key, viewer_of, Log, story_of, longer_log, SameTold}
 
 -- what is visible at t is the same over a list with events after t
 same_visible : {E : Type 0} (v : Viewer E) (es later : List E) (t : ℕ) → AllByRecursion (λ e. t < v.at e) later → (e : E) → v.at e ≤ t → is_visible v (es ++ later) t e ≡ is_visible v es t e
@@ -21,6 +23,10 @@ same_visible v es later t h e upto =
     || ((v.is_own e || v.is_setting e) && allows_after v (list_any (λ d. v.is_own d && is_join (v.membership d)) after) before) in
     ap (λ l. seen l (between v.at 0 p (es ++ later)) (between v.at 0 (p - 1) (es ++ later))) (longer v.at p t t es later (omega arith) h)
     ∙ ap₂ (λ a b. seen (between v.at p t es) a b) (longer v.at 0 p t es later upto h) (longer v.at 0 (p - 1) t es later (omega arith) h)
+
+pub same_seen : {E : Type 0} → SameVisible E
+same_seen v es later t h =
+    AllByRecursion-weaker (λ e. (0 < v.at e) × (v.at e ≤ t)) (λ e. is_visible v (es ++ later) t e ≡ is_visible v es t e) (λ e in'. same_visible v es later t h e in'.1) (between v.at 0 t es) (between-within v.at 0 t es)
 
 same_stayed : {E : Type 0} (v : Viewer E) (es later : List E) (b s t : ℕ) → b ≤ t → s ≤ t → AllByRecursion (λ e. t < v.at e) later → stayed_joined v (es ++ later) b s ≡ stayed_joined v es b s
 same_stayed v es later b s t low high h =
@@ -39,9 +45,9 @@ module _ {C V D T : Type 0} (k : Tokens T) (tokens : IsTokens k) (m : Reading C)
 
   same_sends : AllByRecursion (λ e. long_story.room.sends (k.event j) e ≡ short_story.room.sends (k.event j) e) (between short_story.room.at 0 (k.event j) log.events)
   same_sends =
-      AllByRecursion-weaker (λ (e : Event C). (0 < e.at) × (e.at ≤ k.event j)) (λ e. long_story.room.sends (k.event j) e ≡ short_story.room.sends (k.event j) e)
-      (λ e h. ap (λ b. b && log.filter.passes e) (same_visible (viewer_of m user) log.events later (k.event j) after_j e h.1)) (between short_story.room.at 0 (k.event j) log.events)
-      (between-within short_story.room.at 0 (k.event j) log.events)
+      AllByRecursion-weaker (λ e. is_visible (viewer_of m user) (log.events ++ later) (k.event j) e ≡ is_visible (viewer_of m user) log.events (k.event j) e)
+      (λ e. long_story.room.sends (k.event j) e ≡ short_story.room.sends (k.event j) e) (λ e h. ap (λ b. b && log.filter.passes e) h) (between short_story.room.at 0 (k.event j) log.events)
+      (same_seen (viewer_of m user) log.events later (k.event j) after_j)
 
   same_pick : (after : Bool) (limit s : ℕ) (pick : List (Event C) → Event C → Bool) → s ≤ k.event j
       → part_of long_story.room long_story.events after limit (k.event j) s (k.event j) pick ≡ part_of short_story.room short_story.events after limit (k.event j) s (k.event j) pick
@@ -95,3 +101,11 @@ module _ {C V D T : Type 0} (k : Tokens T) (tokens : IsTokens k) (m : Reading C)
 
 pub same_told : {C V D T : Type 0} → SameTold C V D T
 same_told k tokens m user log later ask heroes b since j next base after_j = same_in k tokens m user log later j after_j ask heroes b since next base
+
+pub same_paged : {C : Type 0} → SamePaged C
+same_paged {C = C} m f user es later limit g e low high up le in' h =
+    let short : Room (Event C) Key = room_of m f user es in
+    let long : Room (Event C) Key = room_of m f user (es ++ later) in
+    same_page short (λ front d. long.sends front d) (λ b t. long.stayed b t) es later limit g e low high up le in' h
+    (AllByRecursion-weaker (λ d. is_visible (viewer_of m user) (es ++ later) e d ≡ is_visible (viewer_of m user) es e d) (λ d. long.sends e d ≡ short.sends e d)
+    (λ d k. ap (λ b. b && f.passes d) k) (between short.at 0 e es) (same_seen (viewer_of m user) es later e h))

@@ -1,10 +1,11 @@
 -- Rooms of events as they are: with type, state key, sender and content (Client-Server API, Events). What is read of a
 -- content is left open.
-use Rattle.std.specs.Prelude.{◌≡◌, ℕ, ◌<◌, Bool, true, cond, ◌&&◌, List, [], ◌∷◌, ◌++◌, Option, Some, None, is_some, is_none}
+use Rattle.std.specs.Prelude.{◌≤◌, ◌≡◌, ℕ, ◌<◌, Bool, true, cond, ◌&&◌, List, [], ◌∷◌, ◌++◌, Option, Some, None, is_some, is_none}
 use Rattle.std.specs.List.{AllByRecursion}
 use Rattle.std.specs.Str.{bytes_eq}
 use Rattle.mx_window.specs.Windows.{Ascends}
 use Rattle.mx_folding.specs.Rooms.{Room}
+use Rattle.mx_folding.specs.Parts.{page_of}
 use Rattle.mx_folding.specs.Visible.{Membership, HistoryVisibility, Viewer, is_visible, joined_at, stayed_joined}
 use Rattle.mx_folding.specs.Stories.{Tokens, IsTokens, Rest, FoldsRest, Story, IsStory, Sync, told, IsNext, IsBase}
 use Rattle.mx_folding.specs.Chains.{new_client, Turn, after_turns, AreTurns, Agrees}
@@ -145,3 +146,8 @@ abbrev pub SameTold : Type 0 → Type 0 → Type 0 → Type 0 → Type 0
 SameTold C V D T = (k : Tokens T) → IsTokens k → (m : Reading C) (user : List ℕ) (log : Log C V D T) (later : List (Event C)) (ask : Sync) (heroes : Key → Bool) (b : ℕ) (since : Option T) (j : T)
     → IsNext k since j → IsBase k b since j → AllByRecursion (λ (e : Event C). k.event j < e.at) later
     → told k (story_of m user (longer_log log later)) ask heroes b since j ≡ told k (story_of m user log) ask heroes b since j
+
+-- So is a page at a front e, over a list that goes on with events after e.
+abbrev pub SamePaged : Type 0 → Type 0
+SamePaged C = (m : Reading C) (f : Filter C) (user : List ℕ) (es later : List (Event C)) (limit g e low high : ℕ) → g ≤ e → low ≤ high → high ≤ e → AllByRecursion (λ (d : Event C). e < d.at) later
+    → page_of (room_of m f user (es ++ later)) (es ++ later) limit g e low high ≡ page_of (room_of m f user es) es limit g e low high

@@ -4,6 +4,7 @@ use Rattle.std.specs.List.{AllByRecursion}
 use Rattle.mx_window.specs.Windows.{between}
 use Rattle.mx_folding.specs.Rooms.{Room}
 use Rattle.mx_folding.specs.Parts.{part_of, page_of}
+use Rattle.mx_folding.specs.Visible.{Viewer, is_visible}
 
 -- the same room, as it is judged over a longer list
 abbrev pub judged_by : {E K : Type 0} → Room E K → (ℕ → E → Bool) → (ℕ → ℕ → Bool) → Room E K
@@ -21,3 +22,8 @@ abbrev pub SamePage : Type 0 → Type 0 → Type 0
 SamePage E K = (r : Room E K) (sends : ℕ → E → Bool) (stayed : ℕ → ℕ → Bool) (es later : List E) (limit g e low high : ℕ)
     → g ≤ e → low ≤ high → high ≤ e → AllByRecursion (λ v. e < r.at v) later → AllByRecursion (λ v. sends e v ≡ r.sends e v) (between r.at 0 e es)
     → page_of (judged_by r sends stayed) (es ++ later) limit g e low high ≡ page_of r es limit g e low high
+
+-- What is visible at a front is the same over a list that goes on with events after it.
+abbrev pub SameVisible : Type 0 → Type 0
+SameVisible E = (v : Viewer E) (es later : List E) (t : ℕ) → AllByRecursion (λ e. t < v.at e) later
+    → AllByRecursion (λ e. is_visible v (es ++ later) t e ≡ is_visible v es t e) (between v.at 0 t es)

@@ -1,7 +1,8 @@
 //! The laws over events with type, state key, sender and content.
 
 ghost use Rattle.mx_folding.specs.Visible.{StaysVisible};
-ghost use Rattle.mx_folding.specs.Events.{EventsAreStory, EventsFold, SameTold};
+ghost use Rattle.mx_folding.specs.Events.{EventsAreStory, EventsFold, SameTold, SamePaged};
+ghost use Rattle.mx_folding.specs.Longer.{SameVisible};
 
 /// What a user who is joined at `s` may see of the events up to `s` is the same at every later front (Client-Server
 /// API, Room History Visibility).
@@ -23,4 +24,14 @@ pub fn events_fold<X, C, V, D, T>()
 /// What a reply says of a room is the same over a list that goes on with events after its token.
 pub fn same_told<C, V, D, T>()
     ensures { SameTold C V D T }
+{}
+
+/// What is visible at a front is the same over a list that goes on with events after it.
+pub fn same_visible<E>()
+    ensures { SameVisible E }
+{}
+
+/// A page at a front is the same over a list that goes on with events after it.
+pub fn same_paged<C>()
+    ensures { SamePaged C }
 {}

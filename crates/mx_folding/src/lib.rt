@@ -13,7 +13,9 @@ mod list_laws;
 mod room_laws;
 
 pub use chain_laws::{chains_fold, folds_room};
-pub use event_laws::{events_are_story, events_fold, same_told, stays_visible};
+pub use event_laws::{
+    events_are_story, events_fold, same_paged, same_told, same_visible, stays_visible,
+};
 pub use list_laws::{all_told_at, same_page, same_part};
 pub use room_laws::{
     folds_new, folds_nothing, folds_page, folds_reply, holds_all, holds_the_rest, holds_the_state,

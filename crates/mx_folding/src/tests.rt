@@ -2,8 +2,8 @@
 
 use crate::{
     all_told_at, chains_fold, events_are_story, events_fold, folds_new, folds_nothing, folds_page,
-    folds_reply, folds_room, holds_all, holds_the_rest, holds_the_state, same_page, same_part,
-    same_told, section_is_window, sent_is_visible, stays_visible,
+    folds_reply, folds_room, holds_all, holds_the_rest, holds_the_state, same_page, same_paged,
+    same_part, same_told, same_visible, section_is_window, sent_is_visible, stays_visible,
 };
 
 #[test]
@@ -25,5 +25,7 @@ fn laws_hold_of_numbers() {
     stays_visible::<u64>();
     events_are_story::<u64, u64, u64, u64>();
     events_fold::<u64, u64, u64, u64, u64>();
+    same_paged::<u64>();
+    same_visible::<u64>();
     same_told::<u64, u64, u64, u64>();
 }
