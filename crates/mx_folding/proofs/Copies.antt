@@ -1,26 +1,16 @@
 -- Copies: what is due of each after a reply or a page.
-use Rattle.std.proofs.Common.{◌≡◌, ℕ, zero, suc, ◌+◌, ◌-◌, ◌<◌, ◌≤◌, Bool, true, false, cond, not, ◌&&◌, ◌||◌, ◌==◌, nat_lt, nat_le, ltb, leb, ◌⊎◌, List, [], ◌∷◌, ◌++◌, map, length, drop, Option, Some, None, is_some, option_map, filter, refl, ap, ap₂, sym, ◌∙◌, subst, inl, inr, ⊎_elim, arith, append_assoc, append-nil, ltb-true, ltb-false, leb-true, leb-false, lt-ltb, le-ltb, le-leb, eq-eqb, eqb-true, length-append}
-use Rattle.std.proofs.lemmas.Bool.{cases_Bool, and_parts, and_from, and_left, and_right, and_cases, or_parts, or_from, or_left, or_right, or_cases, true≢false, false≢true, cases_lt, both_ways, lt-leb, not-true, not-false, not_from_true, not_from_false, true_from_ne_false}
-use Rattle.std.proofs.lemmas.Bool.Decides.{nat_tests}
-use Rattle.std.proofs.lemmas.List.{map-append}
-use Rattle.std.proofs.lemmas.List.Elements.{filter-append}
+use Rattle.std.proofs.Common.{◌≡◌, ℕ, ◌<◌, ◌≤◌, Bool, true, false, ◌&&◌, ◌||◌, nat_lt, nat_le, List, ◌++◌, map, Option, Some, None, refl, ap, sym, ◌∙◌, subst, inl, inr, arith, lt-ltb, le-leb, eqb-true}
+use Rattle.std.proofs.lemmas.Bool.{cases_Bool, and_from, or_cases, false≢true, both_ways, true_from_ne_false}
 use Rattle.std.specs.List.{list_any, AllByRecursion, Contains}
 use Rattle.std.proofs.lemmas.List.Folds.{list_any-append}
-use Rattle.std.specs.Option.{option_or}
-use Rattle.std.specs.Prelude.{⊤}
-use Rattle.mx_window.specs.Windows.{Ascends, between, before_first}
-use Rattle.mx_window.specs.Lasts.{last_of, last_at, last, current, keep_if}
-use Rattle.mx_window.proofs.Each.{AllByRecursion-map, AllByRecursion-append, AllByRecursion-front, AllByRecursion-back, AllByRecursion-weaker, AllByRecursion-both, AllByRecursion-every, AllByRecursion-filter, AllByRecursion-passed, AllByRecursion-none, AllByRecursion-at, AllByRecursion-contained, list_any-none, list_any-map, list_any-same, filter-weaker, filter-swap, filter-same, filter-none, map-map, map-same}
-use Rattle.mx_window.proofs.Intervals.{between-empty, between-none, between-split, between-inner, between-within, Ascends-filter, Ascends-between, Ascends-lower, Ascends-map}
-use Rattle.mx_window.proofs.Lasts.{option_or-none, option_or-assoc, last_of-append, last_of-filter, last_of-same, last_of-some, last_of-none, none-last_of, last_of-split, AllByRecursion-current, last_of-picked, last_of-map, is_some-last_of}
-use Rattle.mx_window.proofs.Sections.{last-between, after-last, list_any-filter, Ascends-after}
-use Rattle.mx_folding.specs.Rooms.{Room, IsRoom, StaysSent, state_at}
-use Rattle.mx_folding.specs.Sections.{sendable, break_at, section, cut, is_limited, chunk}
+use Rattle.mx_window.specs.Windows.{between}
+use Rattle.mx_window.proofs.Each.{AllByRecursion-map, AllByRecursion-weaker, AllByRecursion-both, AllByRecursion-at, list_any-none, list_any-map, list_any-same, filter-none}
+use Rattle.mx_window.proofs.Intervals.{between-inner}
+use Rattle.mx_window.proofs.Sections.{list_any-filter}
+use Rattle.mx_folding.specs.Rooms.{Room, IsRoom}
 use Rattle.mx_folding.specs.Redactions.{is_some_of, is_named, is_redacted, shown, redact_by}
-use Rattle.mx_folding.specs.Parts.{is_sender, state_list, state_part, is_omitted, picks, picks_new, Part, part_of, Page, page_of}
-use Rattle.mx_folding.specs.Clients.{Entry, Held, Open, held, ClientRoom, empty_room, put_all, put_new, gap_if, redact_entry, redacted_room, with_part, with_page}
-use Rattle.mx_folding.specs.Agreement.{pictured, filled, Rises, TimelineAgrees, StateAgrees, is_gap_before, is_owed, IsCopy, IsDue, RoomAgrees}
-use Rattle.mx_folding.proofs.Redacting.{shown-at, redact_by-at, redact_by-names, shown-names}
+use Rattle.mx_folding.specs.Agreement.{IsCopy, IsDue}
+use Rattle.mx_folding.proofs.Redacting.{shown-at, redact_by-names}
 
 pub copy_at : {E K : Type 0} (r : Room E K) (es : List E) (c : E) → IsRoom r es → (copy : IsCopy r es c) → r.at c ≡ r.at copy.event
 copy_at r es c room copy = elim copy.copied [ inl a ↦ ap r.at a | inr a ↦ ap r.at a ∙ room.red_at copy.event ]
@@ -40,24 +30,23 @@ pub named_redacted : {E K : Type 0} (r : Room E K) (es : List E) (front : ℕ) (
     → is_named r cs (r.at v) ≡ true → is_redacted r es front v ≡ true
 named_redacted r es front v cs room copies named = true_from_ne_false (is_redacted r es front v) (λ none.
     let each : AllByRecursion (λ w. (nat_lt (r.at v) (r.at w) && nat_le (r.at w) front) ≡ true → is_some_of (r.names w) (r.at v) ≡ false) es =
-          filter-none (λ w. is_some_of (r.names w) (r.at v)) (λ w. nat_lt (r.at v) (r.at w) && nat_le (r.at w) front) es none in
+    filter-none (λ w. is_some_of (r.names w) (r.at v)) (λ w. nat_lt (r.at v) (r.at w) && nat_le (r.at w) front) es none in
     let apart : AllByRecursion (λ c. is_some_of (r.names c) (r.at v) ≡ false) cs =
-          AllByRecursion-weaker (λ c. IsCopy r es c × (r.at c ≤ front)) (λ c. is_some_of (r.names c) (r.at v) ≡ false) (λ c h. unnamed c h.0 h.1 each) cs copies in
+    AllByRecursion-weaker (λ c. IsCopy r es c × (r.at c ≤ front)) (λ c. is_some_of (r.names c) (r.at v) ≡ false) (λ c h. unnamed c h.0 h.1 each) cs copies in
     both_ways (is_named r cs (r.at v)) (list_any-none (λ c. is_some_of (r.names c) (r.at v)) cs apart) named) where
-  unnamed : (c : _) (copy : IsCopy r es c) → r.at c ≤ front
-      → AllByRecursion (λ w. (nat_lt (r.at v) (r.at w) && nat_le (r.at w) front) ≡ true → is_some_of (r.names w) (r.at v) ≡ false) es
-      → is_some_of (r.names c) (r.at v) ≡ false
-  unnamed c copy upto each =
-      let w = copy.event in
-      let same : r.names c ≡ r.names copy.event = copy_names r es c room copy in
-      let there : r.at c ≡ r.at copy.event = copy_at r es c room copy in
-      ap (λ o. is_some_of o (r.at v)) same ∙ elim (cases_Bool (is_some_of (r.names copy.event) (r.at v))) [
-          inr no_name ↦ no_name
-        | inl names ↦
-            let later : r.at v < r.at copy.event = AllByRecursion-at (λ e. (p : ℕ) → r.names e ≡ Some p → p < r.at e) es copy.event room.earlier copy.listed (r.at v) (some_of (r.names copy.event) (r.at v) names) in
-            AllByRecursion-at (λ w. (nat_lt (r.at v) (r.at w) && nat_le (r.at w) front) ≡ true → is_some_of (r.names w) (r.at v) ≡ false) es copy.event each copy.listed
-              (and_from (nat_lt (r.at v) (r.at copy.event)) (nat_le (r.at copy.event) front) (lt-ltb (r.at v) (r.at copy.event) later) (le-leb (r.at copy.event) front (omega (arith, there, upto))))
-      ]
+      unnamed : (c : _) (copy : IsCopy r es c) → r.at c ≤ front
+          → AllByRecursion (λ w. (nat_lt (r.at v) (r.at w) && nat_le (r.at w) front) ≡ true → is_some_of (r.names w) (r.at v) ≡ false) es
+          → is_some_of (r.names c) (r.at v) ≡ false
+      unnamed c copy upto each =
+          let same : r.names c ≡ r.names copy.event = copy_names r es c room copy in
+          let there : r.at c ≡ r.at copy.event = copy_at r es c room copy in
+          ap (λ o. is_some_of o (r.at v)) same ∙ elim (cases_Bool (is_some_of (r.names copy.event) (r.at v))) [
+            | inr no_name ↦ no_name
+            | inl names ↦
+                let later : r.at v < r.at copy.event = AllByRecursion-at (λ e. (p : ℕ) → r.names e ≡ Some p → p < r.at e) es copy.event room.earlier copy.listed (r.at v) (some_of (r.names copy.event) (r.at v) names) in
+                AllByRecursion-at (λ w. (nat_lt (r.at v) (r.at w) && nat_le (r.at w) front) ≡ true → is_some_of (r.names w) (r.at v) ≡ false) es copy.event each copy.listed
+                (and_from (nat_lt (r.at v) (r.at copy.event)) (nat_le (r.at copy.event) front) (lt-ltb (r.at v) (r.at copy.event) later) (le-leb (r.at copy.event) front (omega (arith, there, upto))))
+          ]
 
 -- what isn't redacted by a later front isn't redacted by an earlier one
 pub unredacted_before : {E K : Type 0} (r : Room E K) (es : List E) (front later : ℕ) (v : E) → front ≤ later → is_redacted r es later v ≡ false → is_redacted r es front v ≡ false
@@ -88,29 +77,29 @@ pub due_redact : {E K : Type 0} (r : Room E K) (es by : List E) (front : ℕ) (n
 due_redact r es by front named named' c room copies joined due =
     let there : r.at c ≡ r.at due.copy.event = copy_at r es c room due.copy in
     elim (cases_Bool (is_named r by (r.at c))) [
-        inl a ↦ rw a (record {
-          copy = record { event = due.copy.event; listed = due.copy.listed; copied = inr (copy_red r es c room due.copy) };
-          redacted = λ is. copy_red r es c room due.copy;
-          plain = λ none. absurd (both_ways (is_redacted r es front due.copy.event) none
-              (named_redacted r es front due.copy.event by room copies (ap (is_named r by) (sym there) ∙ a)));
-        })
+      | inl a ↦ rw a (record {
+        copy = record { event = due.copy.event; listed = due.copy.listed; copied = inr (copy_red r es c room due.copy) };
+        redacted = λ is. copy_red r es c room due.copy;
+        plain = λ none. absurd (both_ways (is_redacted r es front due.copy.event) none
+            (named_redacted r es front due.copy.event by room copies (ap (is_named r by) (sym there) ∙ a)));
+      })
       | inr a ↦ rw a (record {
-          copy = due.copy;
-          redacted = λ is. due.redacted (named_before (r.at due.copy.event) (ap (is_named r by) (sym there) ∙ a) is);
-          plain = due.plain;
-        })
+        copy = due.copy;
+        redacted = λ is. due.redacted (named_before (r.at due.copy.event) (ap (is_named r by) (sym there) ∙ a) is);
+        plain = due.plain;
+      })
     ] where
-  named_before : (p : ℕ) → is_named r by p ≡ false → named' p ≡ true → named p ≡ true
-  named_before p none is = elim (or_cases (named p) (is_named r by p) (sym (joined p) ∙ is)) [ inl a ↦ a | inr b ↦ absurd (both_ways (is_named r by p) none b) ]
+      named_before : (p : ℕ) → is_named r by p ≡ false → named' p ≡ true → named p ≡ true
+      named_before p none is = elim (or_cases (named p) (is_named r by p) (sym (joined p) ∙ is)) [ inl a ↦ a | inr b ↦ absurd (both_ways (is_named r by p) none b) ]
 
 -- events of the list as they are sent at t are copies of it
 pub sent_copies : {E K : Type 0} (r : Room E K) (es : List E) (t front : ℕ) (xs : List E) → IsRoom r es → AllByRecursion (λ v. Contains es v) xs → AllByRecursion (λ v. r.at v ≤ front) xs
     → AllByRecursion (λ c. IsCopy r es c × (r.at c ≤ front)) (map (shown r es t) xs)
 sent_copies r es t front xs room in' upto =
     AllByRecursion-map (λ c. IsCopy r es c × (r.at c ≤ front)) (shown r es t) xs
-      (AllByRecursion-weaker (λ v. Contains es v × (r.at v ≤ front)) (λ v. IsCopy r es (shown r es t v) × (r.at (shown r es t v) ≤ front))
-        (λ v h. ((due_new r es t t (λ p. false) v (omega arith) h.0 (λ is. absurd (false≢true is))).copy, subst (λ x. x ≤ front) (sym (shown-at r es room t v)) h.1))
-        xs (AllByRecursion-both (λ v. Contains es v) (λ v. r.at v ≤ front) xs in' upto))
+    (AllByRecursion-weaker (λ v. Contains es v × (r.at v ≤ front)) (λ v. IsCopy r es (shown r es t v) × (r.at (shown r es t v) ≤ front))
+    (λ v h. ((due_new r es t t (λ p. false) v (omega arith) h.0 (λ is. absurd (false≢true is))).copy, subst (λ x. x ≤ front) (sym (shown-at r es room t v)) h.1))
+    xs (AllByRecursion-both (λ v. Contains es v) (λ v. r.at v ≤ front) xs in' upto))
 
 pub sent_due : {E K : Type 0} (r : Room E K) (es : List E) (t front : ℕ) (named : ℕ → Bool) (xs : List E) → t ≤ front → AllByRecursion (λ v. Contains es v) xs → ((v : E) → named (r.at v) ≡ true → is_redacted r es t v ≡ true)
     → AllByRecursion (IsDue r es front named) (map (shown r es t) xs)

@@ -1,25 +1,17 @@
 -- A section and a chunk are the sendable events of a window, and what is known of it.
-use Rattle.std.proofs.Common.{◌≡◌, ℕ, zero, suc, ◌+◌, ◌-◌, ◌<◌, ◌≤◌, Bool, true, false, cond, not, ◌&&◌, ◌||◌, ◌==◌, nat_lt, nat_le, ltb, leb, ◌⊎◌, List, [], ◌∷◌, ◌++◌, map, length, drop, Option, Some, None, is_some, option_map, filter, refl, ap, ap₂, sym, ◌∙◌, subst, inl, inr, ⊎_elim, arith, append_assoc, append-nil, ltb-true, ltb-false, leb-true, leb-false, lt-ltb, le-ltb, le-leb, eq-eqb, eqb-true, length-append}
-use Rattle.std.proofs.lemmas.Bool.{cases_Bool, and_parts, and_from, and_left, and_right, and_cases, or_parts, or_from, or_left, or_right, or_cases, true≢false, false≢true, cases_lt, both_ways, lt-leb, not-true, not-false, not_from_true, not_from_false}
-use Rattle.std.proofs.lemmas.Bool.Decides.{nat_tests}
-use Rattle.std.proofs.lemmas.List.{map-append}
-use Rattle.std.proofs.lemmas.List.Elements.{filter-append}
-use Rattle.std.specs.List.{list_any, AllByRecursion, Contains}
-use Rattle.std.specs.Option.{option_or}
-use Rattle.std.specs.Prelude.{⊤}
+use Rattle.std.proofs.Common.{◌↔◌, ◌≡◌, ℕ, ◌-◌, ◌<◌, ◌≤◌, Bool, true, false, cond, not, ◌&&◌, nat_lt, nat_le, List, [], ◌∷◌, ◌++◌, map, length, refl, ap, sym, ◌∙◌, subst, arith, ltb-false, le-ltb, length-append}
+use Rattle.std.proofs.lemmas.Bool.{true≢false, false≢true}
+use Rattle.std.specs.List.{list_any, AllByRecursion}
 use Rattle.mx_window.specs.Windows.{Ascends, between, before_first}
-use Rattle.mx_window.specs.Lasts.{last_of, last_at, last, current, keep_if}
-use Rattle.mx_window.proofs.Each.{AllByRecursion-map, AllByRecursion-append, AllByRecursion-front, AllByRecursion-back, AllByRecursion-weaker, AllByRecursion-both, AllByRecursion-every, AllByRecursion-filter, AllByRecursion-passed, AllByRecursion-none, AllByRecursion-at, AllByRecursion-contained, list_any-none, list_any-map, list_any-same, filter-weaker, filter-swap, filter-same, filter-none, map-map, map-same}
-use Rattle.mx_window.proofs.Intervals.{between-empty, between-none, between-split, between-inner, between-within, Ascends-filter, Ascends-between, Ascends-lower, Ascends-map}
-use Rattle.mx_window.proofs.Lasts.{option_or-none, option_or-assoc, last_of-append, last_of-filter, last_of-same, last_of-some, last_of-none, none-last_of, last_of-split, AllByRecursion-current, last_of-picked, last_of-map, is_some-last_of}
-use Rattle.mx_window.proofs.Sections.{last-between, after-last, list_any-filter, Ascends-after}
-use Rattle.mx_folding.specs.Rooms.{Room, IsRoom, StaysSent, state_at}
+use Rattle.mx_window.specs.Lasts.{last}
+use Rattle.mx_window.proofs.Each.{AllByRecursion-map, AllByRecursion-weaker, AllByRecursion-filter, AllByRecursion-passed, AllByRecursion-none, map-map, map-same}
+use Rattle.mx_window.proofs.Intervals.{between-inner, between-within, Ascends-filter, Ascends-between, Ascends-map}
+use Rattle.mx_window.proofs.Sections.{last-between, after-last, list_any-filter, AllByRecursion-drop}
+use Rattle.mx_folding.specs.Rooms.{Room, IsRoom}
 use Rattle.mx_folding.specs.Sections.{sendable, break_at, section, cut, is_limited, chunk}
-use Rattle.mx_folding.specs.Redactions.{is_some_of, is_named, is_redacted, shown, redact_by}
-use Rattle.mx_folding.specs.Parts.{is_sender, state_list, state_part, is_omitted, picks, picks_new, Part, part_of, Page, page_of}
-use Rattle.mx_folding.specs.Clients.{Entry, Held, Open, held, ClientRoom, empty_room, put_all, put_new, gap_if, redact_entry, redacted_room, with_part, with_page}
-use Rattle.mx_folding.specs.Agreement.{pictured, filled, Rises, TimelineAgrees, StateAgrees, is_gap_before, is_owed, IsCopy, IsDue, RoomAgrees}
-use Rattle.mx_folding.proofs.Timelines.{sendable-split, sendable-stays}
+use Rattle.mx_folding.specs.Redactions.{shown}
+use Rattle.mx_folding.specs.Laws.{SectionIsWindow, SentIsVisible}
+use Rattle.mx_folding.proofs.Timelines.{sendable-split}
 use Rattle.mx_folding.proofs.Redacting.{shown-at}
 
 -- what is known of the events that are sent for (low, high], visible at the front
@@ -56,7 +48,7 @@ sent_from r es limit front low from high q sent room h k e qe =
 
 pub break_within : {E K : Type 0} (r : Room E K) (es : List E) (front low high : ℕ) → IsRoom r es → low ≤ high
     → (low ≤ break_at r es front low high) × (break_at r es front low high ≤ high)
-      × (list_any (λ e. r.keeps e && not (r.sends front e)) (between r.at (break_at r es front low high) high es) ≡ false)
+    × (list_any (λ e. r.keeps e && not (r.sends front e)) (between r.at (break_at r es front low high) high es) ≡ false)
 break_within r es front low high room h =
     after-last r.at (λ e. r.keeps e && not (r.sends front e)) low high 0 es room.ascends h (break_at r es front low high) refl
 
@@ -76,17 +68,17 @@ no_break r es limit front low high room h =
     let q : ℕ = cut r es false limit front low high in
     let facts = break_within r es front low high room h in
     let sent : Sent r es front b high q (section r es false limit front low high) _ =
-          sent_from r es limit front b b high q (section r es false limit front low high) room (omega arith) facts.1 refl refl in
+    sent_from r es limit front b b high q (section r es false limit front low high) room (omega arith) facts.1 refl refl in
     let inner : between r.at q high (between r.at b high es) ≡ between r.at q high es = between-inner r.at q high b high es sent.low_q (omega arith) in
     let none : list_any (λ e. r.keeps e && not (r.sends front e)) (between r.at q high es) ≡ false =
-          ap (list_any (λ e. r.keeps e && not (r.sends front e))) (sym inner)
-          ∙ list_any-filter (λ e. r.keeps e && not (r.sends front e)) (λ e. nat_lt q (r.at e) && nat_le (r.at e) high) (between r.at b high es) facts.2 in
+    ap (list_any (λ e. r.keeps e && not (r.sends front e))) (sym inner)
+    ∙ list_any-filter (λ e. r.keeps e && not (r.sends front e)) (λ e. nat_lt q (r.at e) && nat_le (r.at e) high) (between r.at b high es) facts.2 in
     AllByRecursion-weaker (λ e. (r.keeps e && not (r.sends front e)) ≡ false) (λ e. r.keeps e ≡ true → r.sends front e ≡ true)
-      (λ e n k. sends_from (r.keeps e) (r.sends front e) n k) (between r.at q high es) (AllByRecursion-none (λ e. r.keeps e && not (r.sends front e)) (between r.at q high es) none) where
-  sends_from : (a b : Bool) → (a && not b) ≡ false → a ≡ true → b ≡ true
-  sends_from true true n k = refl
-  sends_from true false n k = absurd (true≢false n)
-  sends_from false b n k = absurd (false≢true k)
+    (λ e n k. sends_from (r.keeps e) (r.sends front e) n k) (between r.at q high es) (AllByRecursion-none (λ e. r.keeps e && not (r.sends front e)) (between r.at q high es) none) where
+      sends_from : (a b : Bool) → (a && not b) ≡ false → a ≡ true → b ≡ true
+      sends_from true true n k = refl
+      sends_from true false n k = absurd (true≢false n)
+      sends_from false b n k = absurd (false≢true k)
 
 pub chunk_sent : {E K : Type 0} (r : Room E K) (es : List E) (limit front low high : ℕ) → IsRoom r es → low ≤ high
     → Sent r es front low high (before_first r.at high (chunk r es limit front low high)) (chunk r es limit front low high) (nat_lt (length (chunk r es limit front low high)) (length (sendable r es front low high)))
@@ -103,7 +95,7 @@ sendable_ascends r es front low high room = Ascends-filter r.at low (r.sends fro
 pub sendable_within : {E K : Type 0} (r : Room E K) (es : List E) (front low high : ℕ) → AllByRecursion (λ e. r.at e ≤ high) (sendable r es front low high)
 sendable_within r es front low high =
     AllByRecursion-filter (λ e. r.at e ≤ high) (r.sends front) (between r.at low high es)
-      (AllByRecursion-weaker (λ e. (low < r.at e) × (r.at e ≤ high)) (λ e. r.at e ≤ high) (λ e h. h.1) (between r.at low high es) (between-within r.at low high es))
+    (AllByRecursion-weaker (λ e. (low < r.at e) × (r.at e ≤ high)) (λ e. r.at e ≤ high) (λ e h. h.1) (between r.at low high es) (between-within r.at low high es))
 
 pub shown_ascends : {E K : Type 0} (r : Room E K) (es : List E) (front low : ℕ) (xs : List E) → IsRoom r es → Ascends r.at low xs → Ascends r.at low (map (shown r es front) xs)
 shown_ascends r es front low xs room up = Ascends-map r.at r.at (shown r es front) (λ e. shown-at r es room front e) low xs up
@@ -111,4 +103,26 @@ shown_ascends r es front low xs room up = Ascends-map r.at r.at (shown r es fron
 pub shown_within : {E K : Type 0} (r : Room E K) (es : List E) (front high : ℕ) (xs : List E) → IsRoom r es → AllByRecursion (λ e. r.at e ≤ high) xs → AllByRecursion (λ e. r.at e ≤ high) (map (shown r es front) xs)
 shown_within r es front high xs room upto =
     AllByRecursion-map (λ e. r.at e ≤ high) (shown r es front) xs
-      (AllByRecursion-weaker (λ e. r.at e ≤ high) (λ e. r.at (shown r es front e) ≤ high) (λ e h. subst (λ x. x ≤ high) (sym (shown-at r es room front e)) h) xs upto)
+    (AllByRecursion-weaker (λ e. r.at e ≤ high) (λ e. r.at (shown r es front e) ≤ high) (λ e h. subst (λ x. x ≤ high) (sym (shown-at r es room front e)) h) xs upto)
+
+none_more : {A : Type 0} (xs ys zs sent : List A) → zs ≡ xs ++ ys → sent ≡ ys → xs ≡ [] → nat_lt (length sent) (length zs) ≡ false
+none_more xs ys zs sent e f none = le-ltb (length sent) (length zs) (omega (arith, ap length e, ap length f, length-append xs ys, ap length none))
+
+pub section_is_window : {E K : Type 0} → SectionIsWindow E K
+section_is_window r es room after limit front low high q h is =
+    let facts : Sent r es front low high (cut r es after limit front low high) (section r es after limit front low high) (is_limited r es after limit front low high) = section_sent r es after limit front low high room h in
+    subst (λ x. (section r es after limit front low high ≡ sendable r es front x high) × (low ≤ x) × (x ≤ high) × ((is_limited r es after limit front low high ≡ false) ↔ (sendable r es front low x ≡ []))) (sym is) (
+      facts.is,
+      facts.low_q,
+      facts.q_high,
+      (
+        facts.none,
+        none_more (sendable r es front low (cut r es after limit front low high)) (sendable r es front (cut r es after limit front low high) high) (sendable r es front low high) (section r es after limit front low high)
+            (sendable-split r es front low (cut r es after limit front low high) high room facts.low_q facts.q_high) facts.is,
+      ),
+    )
+
+pub sent_is_visible : {E K : Type 0} → SentIsVisible E K
+sent_is_visible r es after limit front low high =
+    let from : ℕ = cond after low (break_at r es front low high) in
+    AllByRecursion-drop (λ e. r.sends front e ≡ true) (length (sendable r es front from high) - limit) (sendable r es front from high) (AllByRecursion-passed (r.sends front) (between r.at from high es))

@@ -7,3 +7,10 @@ pub mod Owed
 pub mod Replies
 pub mod Pages
 pub mod Rest
+pub mod Sees
+pub mod Memberships
+pub mod Chains
+pub mod Longer
+pub mod Lists
+pub mod Events
+pub mod LongerEvents

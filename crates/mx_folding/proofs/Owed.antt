@@ -1,25 +1,14 @@
 -- What is owed after a reply and after a page was owed before, or is told.
-use Rattle.std.proofs.Common.{◌≡◌, ℕ, zero, suc, ◌+◌, ◌-◌, ◌<◌, ◌≤◌, Bool, true, false, cond, not, ◌&&◌, ◌||◌, ◌==◌, nat_lt, nat_le, ltb, leb, ◌⊎◌, List, [], ◌∷◌, ◌++◌, map, length, drop, Option, Some, None, is_some, option_map, filter, refl, ap, ap₂, sym, ◌∙◌, subst, inl, inr, ⊎_elim, arith, append_assoc, append-nil, ltb-true, ltb-false, leb-true, leb-false, lt-ltb, le-ltb, le-leb, eq-eqb, eqb-true, length-append}
-use Rattle.std.proofs.lemmas.Bool.{cases_Bool, and_parts, and_from, and_left, and_right, and_cases, or_parts, or_from, or_left, or_right, or_cases, true≢false, false≢true, cases_lt, both_ways, lt-leb, not-true, not-false, not_from_true, not_from_false, true_from_ne_false}
-use Rattle.std.proofs.lemmas.Bool.Decides.{nat_tests}
-use Rattle.std.proofs.lemmas.List.{map-append}
-use Rattle.std.proofs.lemmas.List.Elements.{filter-append}
-use Rattle.std.specs.List.{list_any, AllByRecursion, Contains}
+use Rattle.std.proofs.Common.{◌≡◌, ℕ, ◌<◌, ◌≤◌, Bool, true, false, not, ◌&&◌, ◌||◌, nat_lt, nat_le, ◌⊎◌, List, [], ◌∷◌, ◌++◌, map, refl, ap, ap₂, sym, ◌∙◌, subst, inl, inr, arith, append-nil, ltb-true, ltb-false, lt-ltb, le-ltb}
+use Rattle.std.proofs.lemmas.Bool.{and_parts, and_from, and_right, or_parts, or_left, or_right, or_cases, true≢false, false≢true}
+use Rattle.std.specs.List.{list_any}
 use Rattle.std.proofs.lemmas.List.Folds.{list_any-append}
-use Rattle.std.specs.Option.{option_or}
-use Rattle.std.specs.Prelude.{⊤}
-use Rattle.mx_window.specs.Windows.{Ascends, between, before_first}
-use Rattle.mx_window.specs.Lasts.{last_of, last_at, last, current, keep_if}
-use Rattle.mx_window.proofs.Each.{AllByRecursion-map, AllByRecursion-append, AllByRecursion-front, AllByRecursion-back, AllByRecursion-weaker, AllByRecursion-both, AllByRecursion-every, AllByRecursion-filter, AllByRecursion-passed, AllByRecursion-none, AllByRecursion-at, AllByRecursion-contained, list_any-none, list_any-map, list_any-same, filter-weaker, filter-swap, filter-same, filter-none, map-map, map-same}
-use Rattle.mx_window.proofs.Intervals.{between-empty, between-none, between-split, between-inner, between-within, Ascends-filter, Ascends-between, Ascends-lower, Ascends-map}
-use Rattle.mx_window.proofs.Lasts.{option_or-none, option_or-assoc, last_of-append, last_of-filter, last_of-same, last_of-some, last_of-none, none-last_of, last_of-split, AllByRecursion-current, last_of-picked, last_of-map, is_some-last_of}
-use Rattle.mx_window.proofs.Sections.{last-between, after-last, list_any-filter, Ascends-after}
-use Rattle.mx_folding.specs.Rooms.{Room, IsRoom, StaysSent, state_at}
-use Rattle.mx_folding.specs.Sections.{sendable, break_at, section, cut, is_limited, chunk}
-use Rattle.mx_folding.specs.Redactions.{is_some_of, is_named, is_redacted, shown, redact_by}
-use Rattle.mx_folding.specs.Parts.{is_sender, state_list, state_part, is_omitted, picks, picks_new, Part, part_of, Page, page_of}
-use Rattle.mx_folding.specs.Clients.{Entry, Held, Open, held, ClientRoom, empty_room, put_all, put_new, gap_if, redact_entry, redacted_room, with_part, with_page}
-use Rattle.mx_folding.specs.Agreement.{pictured, filled, Rises, TimelineAgrees, StateAgrees, is_gap_before, is_owed, IsCopy, IsDue, RoomAgrees}
+use Rattle.mx_window.proofs.Each.{list_any-map, list_any-same}
+use Rattle.mx_folding.specs.Rooms.{Room, IsRoom}
+use Rattle.mx_folding.specs.Redactions.{shown, redact_by}
+use Rattle.mx_folding.specs.Parts.{is_sender, is_omitted, picks, picks_new}
+use Rattle.mx_folding.specs.Clients.{Entry, Held, Open, held, gap_if, redact_entry}
+use Rattle.mx_folding.specs.Agreement.{is_gap_before, is_owed}
 use Rattle.mx_folding.proofs.Redacting.{redact_by-wrote, shown-wrote}
 
 -- whoever is owed at t, and isn't picked, was owed at s
@@ -112,9 +101,9 @@ gap_reply {C = C} p tl limited low q t sent h =
     gap-append p (tl ++ gap_if limited low q t) (map Held sent)
     ∙ ap₂ (λ a b. a || b) (gap-append p tl (gap_if limited low q t) ∙ ap (λ b. list_any (is_gap_before p) tl || b) (gap-gap C p limited low q t ∙ and_right limited (nat_lt t p) (le-ltb t p h))) (gap-held p sent)
     ∙ drop_false (list_any (is_gap_before p) tl) where
-  drop_false : (b : Bool) → ((b || false) || false) ≡ b
-  drop_false true = refl
-  drop_false false = refl
+      drop_false : (b : Bool) → ((b || false) || false) ≡ b
+      drop_false true = refl
+      drop_false false = refl
 
 pub is_sender-append : {E K : Type 0} (r : Room E K) (k : K) (xs ys : List E) → is_sender r (xs ++ ys) k ≡ (is_sender r xs k || is_sender r ys k)
 is_sender-append r k xs ys = list_any-append (r.wrote k) xs ys
@@ -157,21 +146,21 @@ owed_reply r es limited from b s q t redundant heroes sent tl k v room first up 
     let parts = or_parts (nat_lt from (r.at v)) (r.lazy && (r.member (r.key v) && ((is_sender r sent (r.key v) || heroes (r.key v)) && not (is_omitted r redundant b s v)))) unpicked in
     let upto : r.at v ≤ from = ltb-false from (r.at v) parts.0 in
     let key : r.key v ≡ k = room.keyed k v has in
-    let shown_sent : List _ = map (shown r es t) sent in
     let senders : is_sender r (held (tl ++ gap_if limited s q t ++ map Held (map (shown r es t) sent))) k ≡ (is_sender r (held tl) k || is_sender r sent k) =
-          ap (λ l. is_sender r l k) (held_reply tl limited s q t (map (shown r es t) sent)) ∙ is_sender-append r k (held tl) (map (shown r es t) sent)
-          ∙ ap (λ x. is_sender r (held tl) k || x) (is_sender-shown r es t k sent room) in
+    ap (λ l. is_sender r l k) (held_reply tl limited s q t (map (shown r es t) sent)) ∙ is_sender-append r k (held tl) (map (shown r es t) sent)
+    ∙ ap (λ x. is_sender r (held tl) k || x) (is_sender-shown r es t k sent room) in
     let gaps = gap_reply (r.at v) tl limited s q t (map (shown r es t) sent) (omega arith) in
     let owes' : owed_by r b t k v (is_sender r (held tl) k || is_sender r sent k) (list_any (is_gap_before (r.at v)) tl) ≡ true =
-          sym (ap₂ (owed_by r b t k v) senders gaps) ∙ owes in
+    sym (ap₂ (owed_by r b t k v) senders gaps) ∙ owes in
     let unpicked' : (r.lazy && (r.member k && ((is_sender r sent k || heroes k) && not (is_omitted r redundant b s v)))) ≡ false =
-          subst (λ x. (r.lazy && (r.member x && ((is_sender r sent x || heroes x) && not (is_omitted r redundant b s v)))) ≡ false) key parts.1 in
-    (omega arith,
+    subst (λ x. (r.lazy && (r.member x && ((is_sender r sent x || heroes x) && not (is_omitted r redundant b s v)))) ≡ false) key parts.1 in (
+      omega arith,
       owed_table r.lazy (r.member k) (r.mine k) (is_sender r (held tl) k) (is_sender r sent k) (heroes k) (is_omitted r redundant b s v) (r.stayed b t && nat_lt b (r.at v)) (r.stayed b s && nat_lt b (r.at v))
-        (list_any (is_gap_before (r.at v)) tl)
-        (stayed_before r es b s t v room up (omega arith))
-        (λ o. (and_parts (nat_le (r.at v) s) (r.stayed b s && nat_lt b (r.at v)) (and_parts (not redundant) (nat_le (r.at v) s && (r.stayed b s && nat_lt b (r.at v))) o).1).1)
-        owes' unpicked')
+          (list_any (is_gap_before (r.at v)) tl)
+          (stayed_before r es b s t v room up (omega arith))
+          (λ o. (and_parts (nat_le (r.at v) s) (r.stayed b s && nat_lt b (r.at v)) (and_parts (not redundant) (nat_le (r.at v) s && (r.stayed b s && nat_lt b (r.at v))) o).1).1)
+          owes' unpicked',
+    )
 
 -- what is owed after a new room's part is picked
 pub owed_new : {E K : Type 0} (r : Room E K) (es : List E) (limited : Bool) (b q t : ℕ) (heroes : K → Bool) (sent : List E) (k : K) (v : E) → IsRoom r es → (r.stayed b t ≡ true → t ≤ b)
@@ -180,14 +169,14 @@ pub owed_new : {E K : Type 0} (r : Room E K) (es : List E) (limited : Bool) (b q
 owed_new r es limited b q t heroes sent k v room vacuous has upto owes unpicked =
     let key : r.key v ≡ k = room.keyed k v has in
     let senders : is_sender r (held (gap_if limited 0 q t ++ map Held (map (shown r es t) sent))) k ≡ is_sender r sent k =
-          ap (λ l. is_sender r l k) (held_reply [] limited 0 q t (map (shown r es t) sent)) ∙ is_sender-shown r es t k sent room in
+    ap (λ l. is_sender r l k) (held_reply [] limited 0 q t (map (shown r es t) sent)) ∙ is_sender-shown r es t k sent room in
     let gaps : list_any (is_gap_before (r.at v)) (gap_if limited 0 q t ++ map Held (map (shown r es t) sent)) ≡ false = gap_reply (r.at v) [] limited 0 q t (map (shown r es t) sent) upto in
     let owes' : owed_by r b t k v (is_sender r sent k) false ≡ true = sym (ap₂ (owed_by r b t k v) senders gaps) ∙ owes in
     let unpicked' : (not r.lazy || (not (r.member k) || (r.mine k || (is_sender r sent k || heroes k)))) ≡ false =
-          subst (λ x. (not r.lazy || (not (r.member x) || (r.mine x || (is_sender r sent x || heroes x)))) ≡ false) key unpicked in
+    subst (λ x. (not r.lazy || (not (r.member x) || (r.mine x || (is_sender r sent x || heroes x)))) ≡ false) key unpicked in
     let left : ((r.stayed b t && nat_lt b (r.at v)) || false) ≡ true = new_table r.lazy (r.member k) (r.mine k) (is_sender r sent k) (heroes k) (r.stayed b t && nat_lt b (r.at v)) false owes' unpicked' in
     elim (or_cases (r.stayed b t && nat_lt b (r.at v)) false left) [
-        inl a ↦ let parts = and_parts (r.stayed b t) (nat_lt b (r.at v)) a in let l : t ≤ b = vacuous parts.0 in let m : b < r.at v = ltb-true b (r.at v) parts.1 in absurd (omega arith)
+      | inl a ↦ let parts = and_parts (r.stayed b t) (nat_lt b (r.at v)) a in let l : t ≤ b = vacuous parts.0 in let m : b < r.at v = ltb-true b (r.at v) parts.1 in absurd (omega arith)
       | inr a ↦ absurd (false≢true a)
     ]
 
@@ -195,8 +184,8 @@ owed_new r es limited b q t heroes sent k v room vacuous has upto owes unpicked 
 pub owed_late : {E K : Type 0} (r : Room E K) (b t lower upper g : ℕ) (before behind : List (Entry E)) (k : K) (v : E) → g < r.at v → is_owed r b t (before ++ Open lower upper g ∷ behind) k v ≡ true
 owed_late r b t lower upper g before behind k v h =
     let gap : list_any (is_gap_before (r.at v)) (before ++ Open lower upper g ∷ behind) ≡ true =
-          gap-append (r.at v) before (Open lower upper g ∷ behind)
-          ∙ or_right (list_any (is_gap_before (r.at v)) before) (nat_lt g (r.at v) || list_any (is_gap_before (r.at v)) behind) (or_left (nat_lt g (r.at v)) (list_any (is_gap_before (r.at v)) behind) (lt-ltb g (r.at v) h)) in
+    gap-append (r.at v) before (Open lower upper g ∷ behind)
+    ∙ or_right (list_any (is_gap_before (r.at v)) before) (nat_lt g (r.at v) || list_any (is_gap_before (r.at v)) behind) (or_left (nat_lt g (r.at v)) (list_any (is_gap_before (r.at v)) behind) (lt-ltb g (r.at v) h)) in
     ap (owed_by r b t k v (is_sender r (held (before ++ Open lower upper g ∷ behind)) k)) gap
     ∙ late_table r.lazy (r.member k) (r.mine k) (is_sender r (held (before ++ Open lower upper g ∷ behind)) k) (r.stayed b t && nat_lt b (r.at v))
 
@@ -215,10 +204,10 @@ gap_page : {C : Type 0} (p : ℕ) (before behind : List (Entry C)) (more : Bool)
     → list_any (is_gap_before p) (before ++ gap_if more low mid g ++ map Held sent ++ behind) ≡ true → list_any (is_gap_before p) (before ++ Open low upper g ∷ behind) ≡ true
 gap_page {C = C} p before behind more low mid upper g sent h =
     let joined : list_any (is_gap_before p) (before ++ gap_if more low mid g ++ map Held sent ++ behind)
-          ≡ (((list_any (is_gap_before p) before || (more && nat_lt g p)) || false) || list_any (is_gap_before p) behind) =
-          gap-append p (before ++ gap_if more low mid g ++ map Held sent) behind
-          ∙ ap (λ x. x || list_any (is_gap_before p) behind) (gap-append p (before ++ gap_if more low mid g) (map Held sent)
-            ∙ ap₂ (λ a b. a || b) (gap-append p before (gap_if more low mid g) ∙ ap (λ x. list_any (is_gap_before p) before || x) (gap-gap C p more low mid g)) (gap-held p sent)) in
+    ≡ (((list_any (is_gap_before p) before || (more && nat_lt g p)) || false) || list_any (is_gap_before p) behind) =
+    gap-append p (before ++ gap_if more low mid g ++ map Held sent) behind
+    ∙ ap (λ x. x || list_any (is_gap_before p) behind) (gap-append p (before ++ gap_if more low mid g) (map Held sent)
+    ∙ ap₂ (λ a b. a || b) (gap-append p before (gap_if more low mid g) ∙ ap (λ x. list_any (is_gap_before p) before || x) (gap-gap C p more low mid g)) (gap-held p sent)) in
     gap-append p before (Open low upper g ∷ behind)
     ∙ gap_table (list_any (is_gap_before p) before) (list_any (is_gap_before p) behind) more (nat_lt g p) (sym joined ∙ h)
 
@@ -228,18 +217,17 @@ pub owed_page : {E K : Type 0} (r : Room E K) (es : List E) (front b t low mid u
     → (is_owed r b t (before ++ Open low upper g ∷ behind) k v ≡ true) ⊎ ((r.lazy && (r.member (r.key v) && is_sender r sent (r.key v))) ≡ true)
 owed_page r es front b t low mid upper g more sent before behind k v room has owes =
     let key : r.key v ≡ k = room.keyed k v has in
-    let xs : List _ = map (shown r es front) sent in
     let senders : is_sender r (held (before ++ gap_if more low mid g ++ map Held (map (shown r es front) sent) ++ behind)) k ≡ ((is_sender r (held before) k || is_sender r sent k) || is_sender r (held behind) k) =
-          ap (λ l. is_sender r l k) (held_page before behind more low mid g (map (shown r es front) sent))
-          ∙ is_sender-append r k (held before ++ map (shown r es front) sent) (held behind)
-          ∙ ap (λ x. x || is_sender r (held behind) k) (is_sender-append r k (held before) (map (shown r es front) sent) ∙ ap (λ x. is_sender r (held before) k || x) (is_sender-shown r es front k sent room)) in
+    ap (λ l. is_sender r l k) (held_page before behind more low mid g (map (shown r es front) sent))
+    ∙ is_sender-append r k (held before ++ map (shown r es front) sent) (held behind)
+    ∙ ap (λ x. x || is_sender r (held behind) k) (is_sender-append r k (held before) (map (shown r es front) sent) ∙ ap (λ x. is_sender r (held before) k || x) (is_sender-shown r es front k sent room)) in
     let olds : is_sender r (held (before ++ Open low upper g ∷ behind)) k ≡ (is_sender r (held before) k || is_sender r (held behind) k) =
-          ap (λ l. is_sender r l k) (held-append before (Open low upper g ∷ behind)) ∙ is_sender-append r k (held before) (held behind) in
+    ap (λ l. is_sender r l k) (held-append before (Open low upper g ∷ behind)) ∙ is_sender-append r k (held before) (held behind) in
     let new_gap : Bool = list_any (is_gap_before (r.at v)) (before ++ gap_if more low mid g ++ map Held (map (shown r es front) sent) ++ behind) in
     let old_gap : Bool = list_any (is_gap_before (r.at v)) (before ++ Open low upper g ∷ behind) in
     let owes' : owed_by r b t k v ((is_sender r (held before) k || is_sender r sent k) || is_sender r (held behind) k) new_gap ≡ true = sym (ap (λ x. owed_by r b t k v x new_gap) senders) ∙ owes in
     elim (page_table r.lazy (r.member k) (r.mine k) (is_sender r (held before) k) (is_sender r (held behind) k) (is_sender r sent k) (r.stayed b t && nat_lt b (r.at v)) old_gap new_gap
-        (gap_page (r.at v) before behind more low mid upper g (map (shown r es front) sent)) owes') [
-        inl a ↦ inl (ap (λ x. owed_by r b t k v x old_gap) olds ∙ a)
+    (gap_page (r.at v) before behind more low mid upper g (map (shown r es front) sent)) owes') [
+      | inl a ↦ inl (ap (λ x. owed_by r b t k v x old_gap) olds ∙ a)
       | inr a ↦ inr (subst (λ x. (r.lazy && (r.member x && is_sender r sent x)) ≡ true) (sym key) a)
     ]

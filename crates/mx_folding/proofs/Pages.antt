@@ -1,33 +1,24 @@
 -- What a page sends of a gap, and the room after it.
-use Rattle.std.proofs.Common.{◌≡◌, ℕ, zero, suc, ◌+◌, ◌-◌, ◌<◌, ◌≤◌, Bool, true, false, cond, not, ◌&&◌, ◌||◌, ◌==◌, nat_lt, nat_le, ltb, leb, ◌⊎◌, List, [], ◌∷◌, ◌++◌, map, length, drop, Option, Some, None, is_some, option_map, filter, refl, ap, ap₂, sym, ◌∙◌, subst, inl, inr, ⊎_elim, arith, append_assoc, append-nil, ltb-true, ltb-false, leb-true, leb-false, lt-ltb, le-ltb, le-leb, eq-eqb, eqb-true, length-append}
-use Rattle.std.proofs.lemmas.Bool.{cases_Bool, and_parts, and_from, and_left, and_right, and_cases, or_parts, or_from, or_left, or_right, or_cases, true≢false, false≢true, cases_lt, both_ways, lt-leb, not-true, not-false, not_from_true, not_from_false, true_from_ne_false}
-use Rattle.std.proofs.lemmas.Bool.Decides.{nat_tests}
-use Rattle.std.proofs.lemmas.List.{map-append}
-use Rattle.std.proofs.lemmas.List.Elements.{filter-append}
-use Rattle.std.specs.List.{list_any, AllByRecursion, Contains}
-use Rattle.std.proofs.lemmas.List.Folds.{list_any-append}
-use Rattle.std.specs.Option.{option_or}
-use Rattle.std.specs.Prelude.{⊤}
-use Rattle.mx_window.specs.Windows.{Ascends, between, before_first}
-use Rattle.mx_window.specs.Lasts.{last_of, last_at, last, current, keep_if}
-use Rattle.mx_window.proofs.Each.{AllByRecursion-map, AllByRecursion-append, AllByRecursion-front, AllByRecursion-back, AllByRecursion-weaker, AllByRecursion-both, AllByRecursion-every, AllByRecursion-filter, AllByRecursion-passed, AllByRecursion-none, AllByRecursion-at, AllByRecursion-contained, list_any-none, list_any-map, list_any-same, filter-weaker, filter-swap, filter-same, filter-none, map-map, map-same}
-use Rattle.mx_window.proofs.Intervals.{between-empty, between-none, between-split, between-inner, between-within, Ascends-filter, Ascends-between, Ascends-lower, Ascends-map}
-use Rattle.mx_window.proofs.Lasts.{option_or-none, option_or-assoc, last_of-append, last_of-filter, last_of-same, last_of-some, last_of-none, none-last_of, last_of-split, AllByRecursion-current, last_of-picked, last_of-map, is_some-last_of}
-use Rattle.mx_window.proofs.Sections.{last-between, after-last, list_any-filter, Ascends-after}
-use Rattle.mx_folding.specs.Rooms.{Room, IsRoom, StaysSent, state_at}
-use Rattle.mx_folding.specs.Sections.{sendable, break_at, section, cut, is_limited, chunk}
-use Rattle.mx_folding.specs.Redactions.{is_some_of, is_named, is_redacted, shown, redact_by}
-use Rattle.mx_folding.specs.Parts.{is_sender, state_list, state_part, is_omitted, picks, picks_new, Part, part_of, Page, page_of}
-use Rattle.mx_folding.specs.Clients.{Entry, Held, Open, held, ClientRoom, empty_room, put_all, put_new, gap_if, redact_entry, redacted_room, with_part, with_page}
-use Rattle.mx_folding.specs.Agreement.{pictured, filled, Rises, TimelineAgrees, StateAgrees, is_gap_before, is_owed, IsCopy, IsDue, RoomAgrees}
-use Rattle.mx_folding.proofs.Redacting.{redact_by-at, redact_by-has, redact_by-names, redact_by-wrote, shown-at, shown-has, shown-names, shown-wrote}
-use Rattle.mx_folding.proofs.Timelines.{sendable-stays, pictured-stays, pictured-split, filled-redact, Rises-order, Rises-around, Rises-redact, timeline_reply, timeline_page}
-use Rattle.mx_folding.proofs.Cuts.{Sent, section_sent, no_break, chunk_sent, shown_positions, sendable_ascends, sendable_within, shown_ascends, shown_within}
-use Rattle.mx_folding.proofs.States.{shown_last, wanted_last, part_last, section_last, state_reply, state_page, state_redact}
-use Rattle.mx_folding.proofs.Copies.{copy_at, named_redacted, due_later, due_redact, sent_copies, sent_due, is_named-append, is_named-redact}
-use Rattle.mx_folding.proofs.Owed.{held-append, held-redact, held_reply, held_page, owed_redact, owed_reply, owed_new, owed_late, owed_page}
-use Rattle.mx_folding.specs.Laws.{FoldsReply, FoldsNew, FoldsPage, is_cons, has_some, FoldsNothing, is_in_gap, HoldsTheRest}
-use Rattle.mx_folding.proofs.Replies.{contained_sendable, contained_state, named_early, map_some, or_some, folds_reply, folds_new}
+use Rattle.std.proofs.Common.{◌≡◌, ℕ, ◌≤◌, Bool, true, false, cond, ◌&&◌, ◌||◌, List, [], ◌∷◌, ◌++◌, map, Option, Some, None, option_map, filter, refl, ap, sym, ◌∙◌, subst, arith}
+use Rattle.std.specs.List.{AllByRecursion, Contains}
+use Rattle.mx_window.specs.Windows.{Ascends, before_first}
+use Rattle.mx_window.specs.Lasts.{last_of, keep_if}
+use Rattle.mx_window.proofs.Each.{AllByRecursion-map, AllByRecursion-append, AllByRecursion-front, AllByRecursion-back, AllByRecursion-weaker, AllByRecursion-filter}
+use Rattle.mx_window.proofs.Lasts.{last_of-some}
+use Rattle.mx_folding.specs.Rooms.{Room, IsRoom, state_at}
+use Rattle.mx_folding.specs.Sections.{chunk}
+use Rattle.mx_folding.specs.Redactions.{is_named, is_redacted, shown, redact_by}
+use Rattle.mx_folding.specs.Parts.{is_sender, state_list, Page, page_of}
+use Rattle.mx_folding.specs.Clients.{Entry, Held, Open, held, put_new, gap_if, redact_entry}
+use Rattle.mx_folding.specs.Agreement.{pictured, TimelineAgrees, is_owed, IsCopy, IsDue}
+use Rattle.mx_folding.proofs.Redacting.{redact_by-at}
+use Rattle.mx_folding.proofs.Timelines.{sendable-stays, filled-redact, Rises-order, Rises-around, Rises-redact, timeline_page}
+use Rattle.mx_folding.proofs.Cuts.{Sent, chunk_sent, shown_positions, sendable_ascends, sendable_within, shown_ascends, shown_within}
+use Rattle.mx_folding.proofs.States.{shown_last, wanted_last, state_page, state_redact}
+use Rattle.mx_folding.proofs.Copies.{due_later, due_redact, sent_copies, sent_due, is_named-append, is_named-redact}
+use Rattle.mx_folding.proofs.Owed.{held-append, held-redact, held_page, owed_redact, owed_late, owed_page}
+use Rattle.mx_folding.specs.Laws.{FoldsPage}
+use Rattle.mx_folding.proofs.Replies.{contained_sendable, contained_state, named_early, map_some, or_some}
 
 keep_if-none : {E : Type 0} (p : E → Bool) (o : Option E) → ((e : E) → p e ≡ false) → keep_if p o ≡ None
 keep_if-none p None h = refl
@@ -72,43 +63,43 @@ folds_page {E = E} {K = K} r es is limit b t front front' e lower upper g before
     let rises : Ascends r.at mid xs = subst (Ascends r.at mid) (sym facts.is) (sendable_ascends r es e mid upper is) in
     let within : AllByRecursion (λ v. r.at v ≤ upper) xs = subst (AllByRecursion (λ v. r.at v ≤ upper)) (sym facts.is) (sendable_within r es e mid upper) in
     let fits : TimelineAgrees r es t tl = timeline_page r es t lower upper g mid page.more sent before behind is facts.low_q facts.q_high
-          (shown_positions r es e xs is ∙ ap (map r.at) (facts.is ∙ sendable-stays r es t e mid upper stays up up_t)) (shown_ascends r es e mid xs is rises) (shown_within r es e upper xs is within)
-          (λ n. ap (map r.at) (sym (sendable-stays r es t e lower mid stays up (omega arith)) ∙ facts.none n)) agrees.timeline in
+    (shown_positions r es e xs is ∙ ap (map r.at) (facts.is ∙ sendable-stays r es t e mid upper stays up up_t)) (shown_ascends r es e mid xs is rises) (shown_within r es e upper xs is within)
+    (λ n. ap (map r.at) (sym (sendable-stays r es t e lower mid stays up (omega arith)) ∙ facts.none n)) agrees.timeline in
     let copies : held (map (redact_entry r sent) tl) ≡ map (redact_by r sent) (held before ++ sent ++ held behind) =
-          held-redact r sent tl ∙ ap (map (redact_by r sent)) (held_page before behind page.more lower mid g sent) in
+    held-redact r sent tl ∙ ap (map (redact_by r sent)) (held_page before behind page.more lower mid g sent) in
     let olds : held old ≡ held before ++ held behind = held-append before (Open lower upper g ∷ behind) in
     let joined : (p : ℕ) → named' p ≡ (named p || is_named r sent p) = λ p.
-          ap (λ l. is_named r l p) copies ∙ is_named-redact r es sent (held before ++ sent ++ held behind) p is
-          ∙ is_named-append r (held before ++ sent) (held behind) p ∙ ap (λ x. x || is_named r (held behind) p) (is_named-append r (held before) sent p)
-          ∙ name_order (is_named r (held before) p) (is_named r sent p) (is_named r (held behind) p)
-          ∙ ap (λ x. x || is_named r sent p) (sym (is_named-append r (held before) (held behind) p) ∙ ap (λ l. is_named r l p) (sym olds)) in
+    ap (λ l. is_named r l p) copies ∙ is_named-redact r es sent (held before ++ sent ++ held behind) p is
+    ∙ is_named-append r (held before ++ sent) (held behind) p ∙ ap (λ x. x || is_named r (held behind) p) (is_named-append r (held before) sent p)
+    ∙ name_order (is_named r (held before) p) (is_named r sent p) (is_named r (held behind) p)
+    ∙ ap (λ x. x || is_named r sent p) (sym (is_named-append r (held before) (held behind) p) ∙ ap (λ l. is_named r l p) (sym olds)) in
     let early : (v : E) → named (r.at v) ≡ true → is_redacted r es e v ≡ true = named_early r es front t e named old is up agrees.timeline.order agrees.held_copies in
     let due : (vs : List E) → AllByRecursion (Contains es) vs → AllByRecursion (IsDue r es front' named) (map (shown r es e) vs) = λ vs h. sent_due r es e front' named vs later h early in
     let by : AllByRecursion (λ c. IsCopy r es c × (r.at c ≤ front')) sent =
-          sent_copies r es e front' xs is in_xs (AllByRecursion-weaker (λ v. r.at v ≤ upper) (λ v. r.at v ≤ front') (λ v h. let h' : r.at v ≤ upper = h in omega arith) xs within) in
+    sent_copies r es e front' xs is in_xs (AllByRecursion-weaker (λ v. r.at v ≤ upper) (λ v. r.at v ≤ front') (λ v h. let h' : r.at v ≤ upper = h in omega arith) xs within) in
     let redacted : (c : E) → IsDue r es front' named c → IsDue r es front' named' (redact_by r sent c) = λ c d. due_redact r es sent front' named named' c is by joined d in
     let held_old : AllByRecursion (IsDue r es front' named) (held before ++ held behind) =
-          subst (AllByRecursion (IsDue r es front' named)) olds (AllByRecursion-weaker (IsDue r es front named) (IsDue r es front' named) (λ c d. due_later r es front front' named c higher d) (held old) agrees.held_copies) in
+    subst (AllByRecursion (IsDue r es front' named)) olds (AllByRecursion-weaker (IsDue r es front named) (IsDue r es front' named) (λ c d. due_later r es front front' named c higher d) (held old) agrees.held_copies) in
     let members_due : AllByRecursion (IsDue r es front' named) members =
-          cond_due (IsDue r es front' named) r.lazy (map (shown r es e) (filter (λ v. r.member (r.key v) && is_sender r xs (r.key v)) (state_list r es g)))
-            (due (filter (λ v. r.member (r.key v) && is_sender r xs (r.key v)) (state_list r es g)) (AllByRecursion-filter (Contains es) (λ v. r.member (r.key v) && is_sender r xs (r.key v)) (state_list r es g) (contained_state r es g))) in
+    cond_due (IsDue r es front' named) r.lazy (map (shown r es e) (filter (λ v. r.member (r.key v) && is_sender r xs (r.key v)) (state_list r es g)))
+    (due (filter (λ v. r.member (r.key v) && is_sender r xs (r.key v)) (state_list r es g)) (AllByRecursion-filter (Contains es) (λ v. r.member (r.key v) && is_sender r xs (r.key v)) (state_list r es g) (contained_state r es g))) in
     record {
       timeline = record { whole = filled-redact r es sent is (pictured r es t) tl ∙ fits.whole; order = Rises-redact r es sent is t 0 t tl fits.order };
       state = state_redact r es t (is_owed r b t tl) (is_owed r b t (map (redact_entry r sent) tl)) (redact_by r sent) (put_new r members state) (λ c. redact_by-at r es sent is c)
           (λ k v. owed_redact r es sent b t tl k v is)
           (state_page r es g t e (λ v. r.lazy && (r.member (r.key v) && is_sender r xs (r.key v))) members (is_owed r b t old) (is_owed r b t tl) state is g_t
-            (λ k. page_members r es r.lazy e g (λ v. r.member (r.key v) && is_sender r xs (r.key v)) k is)
-            (λ k v h. owed_late r b t lower upper g before behind k v h)
-            (λ k v has owes. owed_page r es e b t lower mid upper g page.more xs before behind k v is has owes)
-            agrees.state);
+          (λ k. page_members r es r.lazy e g (λ v. r.member (r.key v) && is_sender r xs (r.key v)) k is)
+          (λ k v h. owed_late r b t lower upper g before behind k v h)
+          (λ k v has owes. owed_page r es e b t lower mid upper g page.more xs before behind k v is has owes)
+          agrees.state);
       held_copies = subst (AllByRecursion (IsDue r es front' named')) (sym copies)
           (AllByRecursion-map (IsDue r es front' named') (redact_by r sent) (held before ++ sent ++ held behind)
-            (AllByRecursion-weaker (IsDue r es front' named) (λ c. IsDue r es front' named' (redact_by r sent c)) redacted (held before ++ sent ++ held behind)
-              (AllByRecursion-append (IsDue r es front' named) (held before ++ sent) (held behind)
-                (AllByRecursion-append (IsDue r es front' named) (held before) sent (AllByRecursion-front (IsDue r es front' named) (held before) (held behind) held_old) (due xs in_xs))
-                (AllByRecursion-back (IsDue r es front' named) (held before) (held behind) held_old))));
+          (AllByRecursion-weaker (IsDue r es front' named) (λ c. IsDue r es front' named' (redact_by r sent c)) redacted (held before ++ sent ++ held behind)
+          (AllByRecursion-append (IsDue r es front' named) (held before ++ sent) (held behind)
+          (AllByRecursion-append (IsDue r es front' named) (held before) sent (AllByRecursion-front (IsDue r es front' named) (held before) (held behind) held_old) (due xs in_xs))
+          (AllByRecursion-back (IsDue r es front' named) (held before) (held behind) held_old))));
       state_copies = λ k c. map_some (redact_by r sent) (IsDue r es front' named') (put_new r members state k) c
           (λ x f. redacted x (or_some (IsDue r es front' named) (state k) (last_of (r.has k) members) x
-            (λ y h. due_later r es front front' named y higher (agrees.state_copies k y h))
-            (λ y h. (last_of-some (IsDue r es front' named) (r.has k) members y members_due h).1) f));
+          (λ y h. due_later r es front front' named y higher (agrees.state_copies k y h))
+          (λ y h. (last_of-some (IsDue r es front' named) (r.has k) members y members_due h).1) f));
     }

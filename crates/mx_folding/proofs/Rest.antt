@@ -1,33 +1,19 @@
 -- A part that says nothing, and the timeline without the stretches of its gaps.
-use Rattle.std.proofs.Common.{◌≡◌, ℕ, zero, suc, ◌+◌, ◌-◌, ◌<◌, ◌≤◌, Bool, true, false, cond, not, ◌&&◌, ◌||◌, ◌==◌, nat_lt, nat_le, ltb, leb, ◌⊎◌, List, [], ◌∷◌, ◌++◌, map, length, drop, Option, Some, None, is_some, option_map, filter, refl, ap, ap₂, sym, ◌∙◌, subst, inl, inr, ⊎_elim, arith, append_assoc, append-nil, ltb-true, ltb-false, leb-true, leb-false, lt-ltb, le-ltb, le-leb, eq-eqb, eqb-true, length-append}
-use Rattle.std.proofs.lemmas.Bool.{cases_Bool, and_parts, and_from, and_left, and_right, and_cases, or_parts, or_from, or_left, or_right, or_cases, true≢false, false≢true, cases_lt, both_ways, lt-leb, not-true, not-false, not_from_true, not_from_false, true_from_ne_false}
-use Rattle.std.proofs.lemmas.Bool.Decides.{nat_tests}
-use Rattle.std.proofs.lemmas.List.{map-append}
+use Rattle.std.proofs.Common.{◌≡◌, ℕ, ◌<◌, ◌≤◌, Bool, true, false, cond, not, ◌&&◌, ◌||◌, nat_lt, nat_le, List, [], ◌∷◌, ◌++◌, map, Option, Some, None, option_map, filter, refl, ap, sym, ◌∙◌, arith, append-nil, lt-ltb, le-ltb, le-leb}
+use Rattle.std.proofs.lemmas.Bool.{and_from, and_left, and_right, or_parts, or_from, or_left, true≢false, lt-leb, not_from_true}
 use Rattle.std.proofs.lemmas.List.Elements.{filter-append}
-use Rattle.std.specs.List.{list_any, AllByRecursion, Contains}
-use Rattle.std.proofs.lemmas.List.Folds.{list_any-append}
-use Rattle.std.specs.Option.{option_or}
-use Rattle.std.specs.Prelude.{⊤}
-use Rattle.mx_window.specs.Windows.{Ascends, between, before_first}
-use Rattle.mx_window.specs.Lasts.{last_of, last_at, last, current, keep_if}
-use Rattle.mx_window.proofs.Each.{AllByRecursion-map, AllByRecursion-append, AllByRecursion-front, AllByRecursion-back, AllByRecursion-weaker, AllByRecursion-both, AllByRecursion-every, AllByRecursion-filter, AllByRecursion-passed, AllByRecursion-none, AllByRecursion-at, AllByRecursion-contained, list_any-none, list_any-map, list_any-same, filter-weaker, filter-swap, filter-same, filter-none, map-map, map-same}
-use Rattle.mx_window.proofs.Intervals.{between-empty, between-none, between-split, between-inner, between-within, Ascends-filter, Ascends-between, Ascends-lower, Ascends-map}
-use Rattle.mx_window.proofs.Lasts.{option_or-none, option_or-assoc, last_of-append, last_of-filter, last_of-same, last_of-some, last_of-none, none-last_of, last_of-split, AllByRecursion-current, last_of-picked, last_of-map, is_some-last_of}
-use Rattle.mx_window.proofs.Sections.{last-between, after-last, list_any-filter, Ascends-after}
-use Rattle.mx_folding.specs.Rooms.{Room, IsRoom, StaysSent, state_at}
-use Rattle.mx_folding.specs.Sections.{sendable, break_at, section, cut, is_limited, chunk}
-use Rattle.mx_folding.specs.Redactions.{is_some_of, is_named, is_redacted, shown, redact_by}
-use Rattle.mx_folding.specs.Parts.{is_sender, state_list, state_part, is_omitted, picks, picks_new, Part, part_of, Page, page_of}
-use Rattle.mx_folding.specs.Clients.{Entry, Held, Open, held, ClientRoom, empty_room, put_all, put_new, gap_if, redact_entry, redacted_room, with_part, with_page}
-use Rattle.mx_folding.specs.Agreement.{pictured, filled, Rises, TimelineAgrees, StateAgrees, is_gap_before, is_owed, IsCopy, IsDue, RoomAgrees}
-use Rattle.mx_folding.proofs.Redacting.{redact_by-at, redact_by-has, redact_by-names, redact_by-wrote, shown-at, shown-has, shown-names, shown-wrote}
-use Rattle.mx_folding.proofs.Timelines.{sendable-stays, pictured-stays, pictured-split, filled-redact, Rises-order, Rises-around, Rises-redact, timeline_reply, timeline_page}
-use Rattle.mx_folding.proofs.Cuts.{Sent, section_sent, no_break, chunk_sent, shown_positions, sendable_ascends, sendable_within, shown_ascends, shown_within}
-use Rattle.mx_folding.proofs.States.{shown_last, wanted_last, part_last, section_last, state_reply, state_page, state_redact}
-use Rattle.mx_folding.proofs.Copies.{copy_at, named_redacted, due_later, due_redact, sent_copies, sent_due, is_named-append, is_named-redact}
-use Rattle.mx_folding.proofs.Owed.{held-append, held-redact, held_reply, held_page, owed_redact, owed_reply, owed_new, owed_late, owed_page}
-use Rattle.mx_folding.specs.Laws.{FoldsReply, FoldsNew, FoldsPage, is_cons, has_some, FoldsNothing, is_in_gap, HoldsTheRest}
-use Rattle.mx_folding.proofs.Replies.{contained_sendable, contained_state, named_early, map_some, or_some, folds_reply, folds_new}
+use Rattle.std.specs.List.{list_any, AllByRecursion}
+use Rattle.mx_window.specs.Windows.{between}
+use Rattle.mx_window.proofs.Each.{AllByRecursion-map, AllByRecursion-append, AllByRecursion-weaker, AllByRecursion-filter, filter-same}
+use Rattle.mx_window.proofs.Intervals.{between-within}
+use Rattle.mx_folding.specs.Rooms.{Room, state_at}
+use Rattle.mx_folding.specs.Sections.{sendable}
+use Rattle.mx_folding.specs.Redactions.{redact_by}
+use Rattle.mx_folding.specs.Parts.{is_sender}
+use Rattle.mx_folding.specs.Clients.{Entry, Held, Open, held, ClientRoom, put_all, redact_entry, with_part}
+use Rattle.mx_folding.specs.Agreement.{pictured, filled, Rises, is_gap_before}
+use Rattle.mx_folding.proofs.Timelines.{filled-held}
+use Rattle.mx_folding.specs.Laws.{is_cons, FoldsNothing, is_in_gap, HoldsTheRest, HoldsTheState, HoldsAll}
 
 same_option : {E : Type 0} (f : E → E) → ((e : E) → f e ≡ e) → (o : Option E) → option_map f o ≡ o
 same_option f h None = refl
@@ -45,7 +31,7 @@ redact_none r (Open lower upper front ∷ tl) = ap (λ l. Open lower upper front
 nothing_put : {E K : Type 0} (r : Room E K) (after : Bool) (s q t : ℕ) (room : ClientRoom E K) → with_part r after s t (record { limited = false; cut = q; state = []; sent = [] }) room ≡ room
 nothing_put r after s q t room =
     let kept : (k : _) → option_map (redact_by r []) (put_all r (cond after [] []) (put_all r [] room.state) k) ≡ room.state k =
-          λ k. same_option (redact_by r []) (λ e. refl) (put_all r (cond after [] []) (put_all r [] room.state) k) ∙ put_none r after room.state k in
+    λ k. same_option (redact_by r []) (λ e. refl) (put_all r (cond after [] []) (put_all r [] room.state) k) ∙ put_none r after room.state k in
     let same : map (redact_entry r []) (room.timeline ++ [] ++ []) ≡ room.timeline = redact_none r (room.timeline ++ [] ++ []) ∙ append-nil (room.timeline ++ []) ∙ append-nil room.timeline in
     λ i. record { state = λ k. kept k i; timeline = same i }
 
@@ -58,7 +44,7 @@ folds_nothing r after s t part room h =
     let parts = or_parts part.limited (is_cons part.state || is_cons part.sent) h in
     let rest = or_parts (is_cons part.state) (is_cons part.sent) parts.1 in
     let none : part ≡ record { limited = false; cut = part.cut; state = []; sent = [] } =
-          λ i. record { limited = parts.0 i; cut = part.cut; state = is_nil part.state rest.0 i; sent = is_nil part.sent rest.1 i } in
+    λ i. record { limited = parts.0 i; cut = part.cut; state = is_nil part.state rest.0 i; sent = is_nil part.sent rest.1 i } in
     ap (λ p. with_part r after s t p room) none ∙ nothing_put r after s part.cut t room
 
 -- in a part of a timeline that begins at low, no gap reaches to low or below
@@ -79,8 +65,8 @@ filled_above at picture lies t low high (Held c ∷ tl) h =
 filled_above at picture lies t low high (Open lower upper front ∷ tl) h =
     let first : low ≤ lower = h.0 in let next : lower ≤ upper = h.1 in
     AllByRecursion-append (λ p. low < p) (picture lower upper) (filled at picture tl)
-      (AllByRecursion-weaker (λ p. (lower < p) × (p ≤ upper)) (λ p. low < p) (λ p k. let k' : lower < p = k.0 in omega arith) (picture lower upper) (lies lower upper))
-      (AllByRecursion-weaker (λ p. upper < p) (λ p. low < p) (λ p k. let k' : upper < p = k in omega arith) (filled at picture tl) (filled_above at picture lies t upper high tl h.3))
+    (AllByRecursion-weaker (λ p. (lower < p) × (p ≤ upper)) (λ p. low < p) (λ p k. let k' : lower < p = k.0 in omega arith) (picture lower upper) (lies lower upper))
+    (AllByRecursion-weaker (λ p. upper < p) (λ p. low < p) (λ p k. let k' : upper < p = k in omega arith) (filled at picture tl) (filled_above at picture lies t upper high tl h.3))
 
 filter_none : {A : Type 0} (test : A → Bool) (xs : List A) → AllByRecursion (λ x. test x ≡ false) xs → filter test xs ≡ []
 filter_none test [] h = refl
@@ -97,16 +83,35 @@ rest_of at picture lies t low high (Open lower upper front ∷ tl) h =
     let rest = rest_of at picture lies t upper high tl h.3 in
     let outside : ℕ → Bool = λ p. not ((nat_lt lower p && nat_le p upper) || list_any (is_in_gap p) tl) in
     let out : filter outside (picture lower upper) ≡ [] =
-          filter_none outside (picture lower upper) (AllByRecursion-weaker (λ p. (lower < p) × (p ≤ upper)) (λ p. outside p ≡ false)
-            (λ p k. not_from_true ((nat_lt lower p && nat_le p upper) || list_any (is_in_gap p) tl)
-              (or_left (nat_lt lower p && nat_le p upper) (list_any (is_in_gap p) tl) (and_from (nat_lt lower p) (nat_le p upper) (lt-ltb lower p k.0) (le-leb p upper k.1)))) (picture lower upper) (lies lower upper)) in
+    filter_none outside (picture lower upper) (AllByRecursion-weaker (λ p. (lower < p) × (p ≤ upper)) (λ p. outside p ≡ false)
+    (λ p k. not_from_true ((nat_lt lower p && nat_le p upper) || list_any (is_in_gap p) tl)
+    (or_left (nat_lt lower p && nat_le p upper) (list_any (is_in_gap p) tl) (and_from (nat_lt lower p) (nat_le p upper) (lt-ltb lower p k.0) (le-leb p upper k.1)))) (picture lower upper) (lies lower upper)) in
     let same : filter outside (filled at picture tl) ≡ filter (λ p. not (list_any (is_in_gap p) tl)) (filled at picture tl) =
-          filter-same outside (λ p. not (list_any (is_in_gap p) tl)) (filled at picture tl) (AllByRecursion-weaker (λ p. upper < p) (λ p. outside p ≡ not (list_any (is_in_gap p) tl))
-            (λ p k. ap (λ b. not (b || list_any (is_in_gap p) tl)) (and_right (nat_lt lower p) (nat_le p upper) (lt-leb p upper k))) (filled at picture tl) (filled_above at picture lies t upper high tl h.3)) in
+    filter-same outside (λ p. not (list_any (is_in_gap p) tl)) (filled at picture tl) (AllByRecursion-weaker (λ p. upper < p) (λ p. outside p ≡ not (list_any (is_in_gap p) tl))
+    (λ p k. ap (λ b. not (b || list_any (is_in_gap p) tl)) (and_right (nat_lt lower p) (nat_le p upper) (lt-leb p upper k))) (filled at picture tl) (filled_above at picture lies t upper high tl h.3)) in
     rest ∙ sym same ∙ sym (filter-append outside (picture lower upper) (filled at picture tl) ∙ ap (λ l. l ++ filter outside (filled at picture tl)) out)
 
 pub holds_the_rest : {E K : Type 0} → HoldsTheRest E K
 holds_the_rest r es t tl agrees =
     rest_of r.at (pictured r es t) (λ l u. AllByRecursion-map (λ p. (l < p) × (p ≤ u)) r.at (sendable r es t l u)
-        (AllByRecursion-filter (λ e. (l < r.at e) × (r.at e ≤ u)) (r.sends t) (between r.at l u es) (between-within r.at l u es))) t 0 t tl agrees.order
+    (AllByRecursion-filter (λ e. (l < r.at e) × (r.at e ≤ u)) (r.sends t) (between r.at l u es) (between-within r.at l u es))) t 0 t tl agrees.order
     ∙ ap (filter (λ p. not (list_any (is_in_gap p) tl))) agrees.whole
+
+same_state : {E : Type 0} (at : E → ℕ) (held there : Option E) → ((c : E) → ◌≡◌ {A = Option E} held (Some c) → ◌≡◌ {A = Option ℕ} (option_map at there) (Some (at c)))
+    → ((v : E) → ◌≡◌ {A = Option E} there (Some v) → (c : E) × (◌≡◌ {A = Option E} held (Some c))) → ◌≡◌ {A = Option ℕ} (option_map at held) (option_map at there)
+same_state at (Some c) there right enough = sym (right c refl)
+same_state at None None right enough = refl
+same_state at None (Some v) right enough = absurd (cc ((enough v refl).1))
+
+owed_all : (lazy member rest : Bool) → (lazy && member) ≡ false → (not lazy || (not member || rest)) ≡ true
+owed_all false m rest h = refl
+owed_all true false rest h = refl
+owed_all true true rest h = absurd (true≢false h)
+
+pub holds_the_state : {E K : Type 0} → HoldsTheState E K
+holds_the_state r es b t tl state agrees k h =
+    same_state r.at (state k) (state_at r es t k) (agrees.right k)
+    (λ v is. agrees.enough k v is (owed_all r.lazy (r.member k) (r.mine k || (is_sender r (held tl) k || ((r.stayed b t && nat_lt b (r.at v)) || list_any (is_gap_before (r.at v)) tl))) h))
+
+pub holds_all : {E K : Type 0} → HoldsAll E K
+holds_all r es t cs agrees = sym (filled-held r.at (pictured r es t) cs) ∙ agrees.whole

@@ -1,24 +1,19 @@
 -- The state under a key after a reply and after a page, up to the redactions.
-use Rattle.std.proofs.Common.{◌≡◌, ℕ, zero, suc, ◌+◌, ◌-◌, ◌<◌, ◌≤◌, Bool, true, false, cond, not, ◌&&◌, ◌||◌, ◌==◌, nat_lt, nat_le, ltb, leb, ◌⊎◌, List, [], ◌∷◌, ◌++◌, map, length, drop, Option, Some, None, is_some, option_map, filter, refl, ap, ap₂, sym, ◌∙◌, subst, inl, inr, ⊎_elim, arith, append_assoc, append-nil, ltb-true, ltb-false, leb-true, leb-false, lt-ltb, le-ltb, le-leb, eq-eqb, eqb-true, length-append}
-use Rattle.std.proofs.lemmas.Bool.{cases_Bool, and_parts, and_from, and_left, and_right, and_cases, or_parts, or_from, or_left, or_right, or_cases, true≢false, false≢true, cases_lt, both_ways, lt-leb, not-true, not-false, not_from_true, not_from_false, true_from_ne_false}
-use Rattle.std.proofs.lemmas.Bool.Decides.{nat_tests}
-use Rattle.std.proofs.lemmas.List.{map-append}
-use Rattle.std.proofs.lemmas.List.Elements.{filter-append}
-use Rattle.std.specs.List.{list_any, AllByRecursion, Contains}
+use Rattle.std.proofs.Common.{◌≡◌, ℕ, ◌<◌, ◌≤◌, Bool, true, false, cond, ◌⊎◌, List, map, Option, Some, None, option_map, filter, refl, ap, ap₂, sym, ◌∙◌, inl, inr, arith}
+use Rattle.std.proofs.lemmas.Bool.{both_ways, true_from_ne_false}
+use Rattle.std.specs.List.{AllByRecursion}
 use Rattle.std.specs.Option.{option_or}
-use Rattle.std.specs.Prelude.{⊤}
-use Rattle.mx_window.specs.Windows.{Ascends, between, before_first}
-use Rattle.mx_window.specs.Lasts.{last_of, last_at, last, current, keep_if}
-use Rattle.mx_window.proofs.Each.{AllByRecursion-map, AllByRecursion-append, AllByRecursion-front, AllByRecursion-back, AllByRecursion-weaker, AllByRecursion-both, AllByRecursion-every, AllByRecursion-filter, AllByRecursion-passed, AllByRecursion-none, AllByRecursion-at, AllByRecursion-contained, list_any-none, list_any-map, list_any-same, filter-weaker, filter-swap, filter-same, filter-none, map-map, map-same}
-use Rattle.mx_window.proofs.Intervals.{between-empty, between-none, between-split, between-inner, between-within, Ascends-filter, Ascends-between, Ascends-lower, Ascends-map}
-use Rattle.mx_window.proofs.Lasts.{option_or-none, option_or-assoc, last_of-append, last_of-filter, last_of-same, last_of-some, last_of-none, none-last_of, last_of-split, AllByRecursion-current, last_of-picked, last_of-map, is_some-last_of}
-use Rattle.mx_window.proofs.Sections.{last-between, after-last, list_any-filter, Ascends-after}
-use Rattle.mx_folding.specs.Rooms.{Room, IsRoom, StaysSent, state_at}
-use Rattle.mx_folding.specs.Sections.{sendable, break_at, section, cut, is_limited, chunk}
-use Rattle.mx_folding.specs.Redactions.{is_some_of, is_named, is_redacted, shown, redact_by}
-use Rattle.mx_folding.specs.Parts.{is_sender, state_list, state_part, is_omitted, picks, picks_new, Part, part_of, Page, page_of}
-use Rattle.mx_folding.specs.Clients.{Entry, Held, Open, held, ClientRoom, empty_room, put_all, put_new, gap_if, redact_entry, redacted_room, with_part, with_page}
-use Rattle.mx_folding.specs.Agreement.{pictured, filled, Rises, TimelineAgrees, StateAgrees, is_gap_before, is_owed, IsCopy, IsDue, RoomAgrees}
+use Rattle.mx_window.specs.Windows.{between}
+use Rattle.mx_window.specs.Lasts.{last_of, current, keep_if}
+use Rattle.mx_window.proofs.Each.{AllByRecursion-weaker, AllByRecursion-every, filter-swap}
+use Rattle.mx_window.proofs.Intervals.{between-within}
+use Rattle.mx_window.proofs.Lasts.{last_of-filter, last_of-same, last_of-some, last_of-split, last_of-picked, last_of-map}
+use Rattle.mx_folding.specs.Rooms.{Room, IsRoom, state_at}
+use Rattle.mx_folding.specs.Sections.{sendable}
+use Rattle.mx_folding.specs.Redactions.{shown}
+use Rattle.mx_folding.specs.Parts.{state_list, state_part}
+use Rattle.mx_folding.specs.Clients.{put_all, put_new}
+use Rattle.mx_folding.specs.Agreement.{StateAgrees}
 use Rattle.mx_folding.proofs.Redacting.{shown-has, shown-at}
 
 -- the state at a position is the last after an earlier one, else the state there
@@ -36,7 +31,6 @@ shown_last r es front k xs room =
 pub wanted_last : {E K : Type 0} (r : Room E K) (es : List E) (wanted : E → Bool) (z : ℕ) (k : K) → IsRoom r es
     → last_of (r.has k) (filter wanted (state_list r es z)) ≡ keep_if wanted (state_at r es z k)
 wanted_last r es wanted z k room =
-    let cs : List _ = filter wanted (current r.same (between r.at 0 z es)) in
     ap (last_of (r.has k)) (filter-swap wanted r.is_state (current r.same (between r.at 0 z es)))
     ∙ last_of-filter (r.has k) r.is_state (filter wanted (current r.same (between r.at 0 z es))) (AllByRecursion-every (λ e. r.has k e ≡ true → r.is_state e ≡ true) (room.state k) (filter wanted (current r.same (between r.at 0 z es))))
     ∙ last_of-picked r.same (r.has k) (λ e f. room.one_key k e f) wanted (between r.at 0 z es)
@@ -53,7 +47,7 @@ pub section_last : {E K : Type 0} (r : Room E K) (es : List E) (front q high : �
     → last_of (r.has k) (sendable r es front q high) ≡ last_of (r.has k) (between r.at q high es)
 section_last r es front q high k room sends =
     last_of-filter (r.has k) (r.sends front) (between r.at q high es)
-      (AllByRecursion-weaker (λ e. r.keeps e ≡ true → r.sends front e ≡ true) (λ e. r.has k e ≡ true → r.sends front e ≡ true) (λ e h is. h (room.kept k e is)) (between r.at q high es) sends)
+    (AllByRecursion-weaker (λ e. r.keeps e ≡ true → r.sends front e ≡ true) (λ e. r.has k e ≡ true → r.sends front e ≡ true) (λ e h is. h (room.kept k e is)) (between r.at q high es) sends)
 
 right_after : {E : Type 0} (at : E → ℕ) (f : E → E) → ((e : E) → at (f e) ≡ at e) → (pick : E → Bool) (a b d before : Option E) (c : E)
     → ((h : E) → ◌≡◌ {A = Option E} before (Some h) → ◌≡◌ {A = Option ℕ} (option_map at d) (Some (at h)))
@@ -101,17 +95,18 @@ state_reply r es s z t front pick part puts owed owed' state room low high put t
   right = λ k c e.
       ap (option_map r.at) (splits k)
       ∙ right_after r.at (shown r es front) (λ x. shown-at r es room front x) pick (last_of (r.has k) (between r.at z t es)) (last_of (r.has k) (between r.at s z es)) (state_at r es s k) (state k) c
-          (λ h is. agrees.right k h is) (λ x h is there. first k x h (last_above r es s z k x is).1 there) (sym (after_key k) ∙ e);
+      (λ h is. agrees.right k h is) (λ x h is there. first k x h (last_above r es s z k x is).1 there) (sym (after_key k) ∙ e);
   enough = λ k v is owes.
       let facts = last_of-some (λ e. (0 < r.at e) × (r.at e ≤ t)) (r.has k) (between r.at 0 t es) v (between-within r.at 0 t es) is in
       let found = enough_after (shown r es front) pick (last_of (r.has k) (between r.at z t es)) (last_of (r.has k) (between r.at s z es)) (state_at r es s k) (state k) v
-          (sym (splits k) ∙ is)
-          (λ new. true_from_ne_false (pick v) (λ p. let k' = second k v facts.0 owes p facts.1.1 in let l : s < r.at v = (last_above r es s z k v new).1 in let m : r.at v ≤ s = k'.0 in absurd (omega arith)))
-          (λ old p. agrees.enough k v old (second k v facts.0 owes p facts.1.1).1) in
+      (sym (splits k) ∙ is)
+      (λ new. true_from_ne_false (pick v) (λ p. let k' = second k v facts.0 owes p facts.1.1 in let l : s < r.at v = (last_above r es s z k v new).1 in let m : r.at v ≤ s = k'.0 in absurd (omega arith)))
+      (λ old p. agrees.enough k v old (second k v facts.0 owes p facts.1.1).1) in
       (found.0, after_key k ∙ found.1);
 } where
   splits : (k : _) → state_at r es t k ≡ option_or (last_of (r.has k) (between r.at z t es)) (option_or (last_of (r.has k) (between r.at s z es)) (state_at r es s k))
   splits k = state_split r es z t k room high ∙ ap (option_or (last_of (r.has k) (between r.at z t es))) (state_split r es s z k room low)
+
   after_key : (k : _) → put_all r puts (put_all r part state) k
       ≡ option_or (option_map (shown r es front) (last_of (r.has k) (between r.at z t es))) (option_or (option_map (shown r es front) (keep_if pick (option_or (last_of (r.has k) (between r.at s z es)) (state_at r es s k)))) (state k))
   after_key k = ap₂ (λ x y. option_or x (option_or y (state k))) (put k) (told k ∙ ap (λ o. option_map (shown r es front) (keep_if pick o)) (state_split r es s z k room low))
@@ -150,12 +145,12 @@ state_page r es g t front wanted members owed owed' state room up told late more
   right = λ k c e.
       ap (option_map r.at) (state_split r es g t k room up)
       ∙ right_page r.at (shown r es front) (λ x. shown-at r es room front x) wanted (last_of (r.has k) (between r.at g t es)) (state_at r es g k) (state k) c
-          (λ h is. ap (option_map r.at) (sym (state_split r es g t k room up)) ∙ agrees.right k h is) (λ v is. lately k v is) (ap (option_or (state k)) (sym (told k)) ∙ e);
+      (λ h is. ap (option_map r.at) (sym (state_split r es g t k room up)) ∙ agrees.right k h is) (λ v is. lately k v is) (ap (option_or (state k)) (sym (told k)) ∙ e);
   enough = λ k v is owes.
       let facts = last_of-some (λ e. (0 < r.at e) × (r.at e ≤ t)) (r.has k) (between r.at 0 t es) v (between-within r.at 0 t es) is in
       let found = enough_page (shown r es front) wanted (last_of (r.has k) (between r.at g t es)) (state_at r es g k) (state k) v
-          (sym (state_split r es g t k room up) ∙ is) (λ x new. lately k x new)
-          (elim (more k v facts.0 owes) [ inl o ↦ inl (agrees.enough k v is o) | inr w ↦ inr w ]) in
+      (sym (state_split r es g t k room up) ∙ is) (λ x new. lately k x new)
+      (elim (more k v facts.0 owes) [ inl o ↦ inl (agrees.enough k v is o) | inr w ↦ inr w ]) in
       (found.0, ap (option_or (state k)) (told k) ∙ found.1);
 } where
   lately : (k : _) (v : _) → ◌≡◌ {A = Option _} (last_of (r.has k) (between r.at g t es)) (Some v) → (h : _) × (◌≡◌ {A = Option _} (state k) (Some h))

@@ -1,25 +1,17 @@
 -- The timeline after a reply and after a page, up to the redactions.
-use Rattle.std.proofs.Common.{◌≡◌, ℕ, zero, suc, ◌+◌, ◌-◌, ◌<◌, ◌≤◌, Bool, true, false, cond, not, ◌&&◌, ◌||◌, ◌==◌, nat_lt, nat_le, ltb, leb, ◌⊎◌, List, [], ◌∷◌, ◌++◌, map, length, drop, Option, Some, None, is_some, option_map, filter, refl, ap, ap₂, sym, ◌∙◌, subst, inl, inr, ⊎_elim, arith, append_assoc, append-nil, ltb-true, ltb-false, leb-true, leb-false, lt-ltb, le-ltb, le-leb, eq-eqb, eqb-true, length-append}
-use Rattle.std.proofs.lemmas.Bool.{cases_Bool, and_parts, and_from, and_left, and_right, and_cases, or_parts, or_from, or_left, or_right, or_cases, true≢false, false≢true, cases_lt, both_ways, lt-leb, not-true, not-false, not_from_true, not_from_false}
-use Rattle.std.proofs.lemmas.Bool.Decides.{nat_tests}
+use Rattle.std.proofs.Common.{◌≡◌, ℕ, ◌<◌, ◌≤◌, Bool, true, false, ◌&&◌, nat_lt, nat_le, List, [], ◌∷◌, ◌++◌, map, filter, refl, ap, ap₂, sym, ◌∙◌, subst, arith, append_assoc, append-nil}
 use Rattle.std.proofs.lemmas.List.{map-append}
 use Rattle.std.proofs.lemmas.List.Elements.{filter-append}
-use Rattle.std.specs.List.{list_any, AllByRecursion, Contains}
-use Rattle.std.specs.Option.{option_or}
-use Rattle.std.specs.Prelude.{⊤}
-use Rattle.mx_window.specs.Windows.{Ascends, between, before_first}
-use Rattle.mx_window.specs.Lasts.{last_of, last_at, last, current, keep_if}
-use Rattle.mx_window.proofs.Each.{AllByRecursion-map, AllByRecursion-append, AllByRecursion-front, AllByRecursion-back, AllByRecursion-weaker, AllByRecursion-both, AllByRecursion-every, AllByRecursion-filter, AllByRecursion-passed, AllByRecursion-none, AllByRecursion-at, AllByRecursion-contained, list_any-none, list_any-map, list_any-same, filter-weaker, filter-swap, filter-same, filter-none, map-map, map-same}
-use Rattle.mx_window.proofs.Intervals.{between-empty, between-none, between-split, between-inner, between-within, Ascends-filter, Ascends-between, Ascends-lower, Ascends-map}
-use Rattle.mx_window.proofs.Lasts.{option_or-none, option_or-assoc, last_of-append, last_of-filter, last_of-same, last_of-some, last_of-none, none-last_of, last_of-split, AllByRecursion-current, last_of-picked, last_of-map, is_some-last_of}
-use Rattle.mx_window.proofs.Sections.{last-between, after-last, list_any-filter, Ascends-after}
-use Rattle.mx_folding.specs.Rooms.{Room, IsRoom, StaysSent, state_at}
-use Rattle.mx_folding.specs.Sections.{sendable, break_at, section, cut, is_limited, chunk}
-use Rattle.mx_folding.specs.Redactions.{is_some_of, is_named, is_redacted, shown, redact_by}
-use Rattle.mx_folding.specs.Parts.{is_sender, state_list, state_part, is_omitted, picks, picks_new, Part, part_of, Page, page_of}
-use Rattle.mx_folding.specs.Clients.{Entry, Held, Open, held, ClientRoom, empty_room, put_all, put_new, gap_if, redact_entry, redacted_room, with_part, with_page}
+use Rattle.std.specs.List.{AllByRecursion}
+use Rattle.mx_window.specs.Windows.{Ascends, between}
+use Rattle.mx_window.proofs.Each.{AllByRecursion-filter, filter-same}
+use Rattle.mx_window.proofs.Intervals.{between-split, between-inner}
+use Rattle.mx_folding.specs.Rooms.{Room, IsRoom, StaysSent}
+use Rattle.mx_folding.specs.Sections.{sendable}
+use Rattle.mx_folding.specs.Redactions.{redact_by}
+use Rattle.mx_folding.specs.Clients.{Entry, Held, Open, gap_if, redact_entry}
 use Rattle.mx_folding.proofs.Redacting.{redact_by-at}
-use Rattle.mx_folding.specs.Agreement.{pictured, filled, Rises, TimelineAgrees, StateAgrees, is_gap_before, is_owed, IsCopy, IsDue, RoomAgrees}
+use Rattle.mx_folding.specs.Agreement.{pictured, filled, Rises, TimelineAgrees}
 
 -- what may be sent of a window up to s stays
 pub sendable-stays : {E K : Type 0} (r : Room E K) (es : List E) (s t low high : ℕ) → StaysSent r es s → s ≤ t → high ≤ s
@@ -27,7 +19,7 @@ pub sendable-stays : {E K : Type 0} (r : Room E K) (es : List E) (s t low high :
 sendable-stays r es s t low high stays up in' =
     let inner : between r.at low high (between r.at 0 s es) ≡ between r.at low high es = between-inner r.at low high 0 s es (omega arith) in' in
     let each : AllByRecursion (λ e. r.sends t e ≡ r.sends s e) (between r.at low high (between r.at 0 s es)) =
-          AllByRecursion-filter (λ e. r.sends t e ≡ r.sends s e) (λ e. nat_lt low (r.at e) && nat_le (r.at e) high) (between r.at 0 s es) (stays t up) in
+    AllByRecursion-filter (λ e. r.sends t e ≡ r.sends s e) (λ e. nat_lt low (r.at e) && nat_le (r.at e) high) (between r.at 0 s es) (stays t up) in
     filter-same (r.sends t) (r.sends s) (between r.at low high es) (subst (AllByRecursion (λ e. r.sends t e ≡ r.sends s e)) inner each)
 
 pub pictured-stays : {E K : Type 0} (r : Room E K) (es : List E) (s t low high : ℕ) → StaysSent r es s → s ≤ t → high ≤ s
@@ -126,8 +118,8 @@ timeline_reply {E = E} r es s t q limited sent tl is stays low high sends up upt
     let p : ℕ → ℕ → List ℕ = pictured r es t in
     let gap : List (Entry E) = gap_if limited s q t in
     let old : filled r.at (pictured r es t) tl ≡ pictured r es t 0 s =
-          filled-same r.at (pictured r es t) (pictured r es s) s 0 s tl agrees.order (λ l u k. pictured-stays r es s t l u stays (omega arith) k)
-          ∙ agrees.whole ∙ sym (pictured-stays r es s t 0 s stays (omega arith) (omega arith)) in
+    filled-same r.at (pictured r es t) (pictured r es s) s 0 s tl agrees.order (λ l u k. pictured-stays r es s t l u stays (omega arith) k)
+    ∙ agrees.whole ∙ sym (pictured-stays r es s t 0 s stays (omega arith) (omega arith)) in
     let mid : filled r.at (pictured r es t) (gap_if limited s q t) ≡ pictured r es t s q = filled-gap r.at (pictured r es t) limited s q t none in
     let new : filled r.at (pictured r es t) (map Held sent) ≡ pictured r es t q t = filled-held r.at (pictured r es t) sent ∙ sends in
     record {
@@ -152,10 +144,10 @@ timeline_page {E = E} r es t lower upper g mid more sent before behind is low hi
     let first : filled r.at p gap ≡ pictured r es t lower mid = filled-gap r.at p more lower mid g none in
     let second : filled r.at p (map Held sent) ≡ pictured r es t mid upper = filled-held r.at p sent ∙ sends in
     let new : filled r.at p (before ++ gap ++ map Held sent) ≡ filled r.at p before ++ pictured r es t lower upper =
-          filled-append r.at p (before ++ gap) (map Held sent)
-          ∙ ap₂ (λ a b. a ++ b) (filled-append r.at p before gap ∙ ap (λ a. filled r.at p before ++ a) first) second
-          ∙ append_assoc (filled r.at p before) (pictured r es t lower mid) (pictured r es t mid upper)
-          ∙ ap (λ a. filled r.at p before ++ a) (sym (pictured-split r es t lower mid upper is low high)) in
+    filled-append r.at p (before ++ gap) (map Held sent)
+    ∙ ap₂ (λ a b. a ++ b) (filled-append r.at p before gap ∙ ap (λ a. filled r.at p before ++ a) first) second
+    ∙ append_assoc (filled r.at p before) (pictured r es t lower mid) (pictured r es t mid upper)
+    ∙ ap (λ a. filled r.at p before ++ a) (sym (pictured-split r es t lower mid upper is low high)) in
     record {
       whole =
           filled-append r.at p (before ++ gap ++ map Held sent) behind
@@ -165,7 +157,7 @@ timeline_page {E = E} r es t lower upper g mid more sent before behind is low hi
           ∙ agrees.whole;
       order = Rises-append r.at t 0 upper t (before ++ gap ++ map Held sent) behind
           (Rises-append r.at t 0 mid upper (before ++ gap) (map Held sent)
-            (Rises-append r.at t 0 lower mid before gap around.0 (Rises-gap r.at t lower mid g more low around.2))
-            (Rises-held r.at t mid upper sent up upto high))
+          (Rises-append r.at t 0 lower mid before gap around.0 (Rises-gap r.at t lower mid g more low around.2))
+          (Rises-held r.at t mid upper sent up upto high))
           around.3;
     }

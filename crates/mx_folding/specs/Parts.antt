@@ -43,13 +43,14 @@ pub record Part (E : Type 0) : Type 0 where
   pub state : List E
   pub sent : List E
 
--- the part for the window (s, t]; `pick` sees the section, since lazy members depend on its senders
-abbrev pub part_of : {E K : Type 0} → Room E K → List E → Bool → ℕ → ℕ → ℕ → (List E → E → Bool) → Part E
-part_of r es after limit s t pick = record {
-  limited = is_limited r es after limit t s t;
-  cut = cut r es after limit t s t;
-  state = map (shown r es t) (state_part r es (pick (section r es after limit t s t)) (cond after t (cut r es after limit t s t)));
-  sent = map (shown r es t) (section r es after limit t s t);
+-- the part for the window (s, t], judged and shown at a front: at t, but for a room that the user left, whose window ends
+-- with its stay; `pick` sees the section, since lazy members depend on its senders
+abbrev pub part_of : {E K : Type 0} → Room E K → List E → Bool → ℕ → ℕ → ℕ → ℕ → (List E → E → Bool) → Part E
+part_of r es after limit front s t pick = record {
+  limited = is_limited r es after limit front s t;
+  cut = cut r es after limit front s t;
+  state = map (shown r es front) (state_part r es (pick (section r es after limit front s t)) (cond after t (cut r es after limit front s t)));
+  sent = map (shown r es front) (section r es after limit front s t);
 }
 
 -- what a backward page says

@@ -1,6 +1,6 @@
 -- One room as a user's sync filter reads it, over events of any type E with state keys of any type K.
 -- A state key here is a pair of event type and state key (Client-Server API, Room state).
-use Rattle.std.specs.Prelude.{◌≡◌, ℕ, ◌+◌, ◌<◌, ◌≤◌, Bool, true, List, Option, Some}
+use Rattle.std.specs.Prelude.{◌≡◌, ℕ, ◌<◌, ◌≤◌, Bool, true, List, Option, Some}
 use Rattle.std.specs.List.{AllByRecursion}
 use Rattle.mx_window.specs.Windows.{Ascends, between}
 use Rattle.mx_window.specs.Lasts.{last_of}

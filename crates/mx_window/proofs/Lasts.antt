@@ -1,10 +1,11 @@
 -- The last item that passes a test, in joined lists and in filters.
-use Rattle.std.proofs.Common.{◌≡◌, ℕ, zero, suc, ◌+◌, ◌-◌, ◌<◌, ◌≤◌, Bool, true, false, cond, not, ◌&&◌, ◌||◌, nat_lt, nat_le, ltb, leb, ◌⊎◌, List, [], ◌∷◌, ◌++◌, map, length, drop, Option, Some, None, is_some, option_map, filter, refl, ap, ap₂, sym, ◌∙◌, subst, inl, inr, arith, append_assoc, append-nil, ltb-true, ltb-false, leb-true, leb-false, lt-ltb, le-ltb, le-leb, length-append, le_refl, le_trans}
+use Rattle.std.proofs.Common.{◌≡◌, ℕ, ◌≤◌, Bool, true, false, cond, ◌||◌, List, [], ◌∷◌, ◌++◌, map, Option, Some, None, is_some, option_map, filter, refl, ap, ap₂, sym, ◌∙◌, subst, inl, inr}
 use Rattle.std.proofs.lemmas.Bool.{cases_Bool, or_parts, both_ways}
 use Rattle.std.specs.List.{list_any, AllByRecursion}
 use Rattle.std.specs.Option.{option_or}
 use Rattle.mx_window.specs.Windows.{Ascends, between}
 use Rattle.mx_window.specs.Lasts.{last_of, current, keep_if}
+use Rattle.mx_window.proofs.Each.{list_any-same}
 use Rattle.mx_window.proofs.Intervals.{between-split}
 
 pub option_or-none : {A : Type 0} (o : Option A) → option_or o None ≡ o
@@ -27,7 +28,7 @@ last_of-filter test keep [] h = refl
 last_of-filter test keep (e ∷ es) h =
     let rest = last_of-filter test keep es h.1 in
     elim (cases_Bool (keep e)) [
-        inl a ↦ rw a (ap (λ o. option_or o (cond (test e) (Some e) None)) rest)
+      | inl a ↦ rw a (ap (λ o. option_or o (cond (test e) (Some e) None)) rest)
       | inr a ↦
           let out : test e ≡ false = elim (cases_Bool (test e)) [ inl b ↦ absurd (both_ways (keep e) a (h.0 b)) | inr b ↦ b ] in
           rw (a, out) (rest ∙ sym (option_or-none (last_of test es)))
@@ -73,10 +74,6 @@ AllByRecursion-current P same (e ∷ es) h =
     let rest = AllByRecursion-current P same es h.1 in
     elim (cases_Bool (list_any (same e) es)) [ inl a ↦ rw a rest | inr a ↦ rw a (h.0, rest) ]
 
-same_any : {E : Type 0} (p q : E → Bool) → ((e : E) → p e ≡ q e) → (es : List E) → list_any p es ≡ list_any q es
-same_any p q f [] = refl
-same_any p q f (e ∷ es) = ap₂ (λ a b. a || b) (f e) (same_any p q f es)
-
 picked_step : {E : Type 0} (pick : E → Bool) (e : E) (found h p : Bool) (here before : Option E) → ((h ≡ true) → found ≡ is_some here) → pick e ≡ p → before ≡ keep_if pick here
     → cond found before (cond p (option_or before (cond h (Some e) None)) before) ≡ keep_if pick (option_or here (cond h (Some e) None))
 picked_step pick e found true p (Some g) before k q b = let is : found ≡ true = k refl in rw is b
@@ -108,10 +105,9 @@ pub last_of-picked : {E : Type 0} (same : E → E → Bool) (has : E → Bool) �
     → last_of has (filter pick (current same es)) ≡ keep_if pick (last_of has es)
 last_of-picked same has key pick [] = refl
 last_of-picked same has key pick (e ∷ es) =
-    let before : Option _ = last_of has (filter pick (current same es)) in
     pick_cases pick has e (current same es) (list_any (same e) es) (pick e) refl
     ∙ picked_step pick e (list_any (same e) es) (has e) (pick e) (last_of has es) (last_of has (filter pick (current same es)))
-    (λ h. same_any (same e) has (λ f. key e f h) es ∙ is_some-last_of has es) refl (last_of-picked same has key pick es)
+    (λ h. list_any-same (same e) has (λ f. key e f h) es ∙ is_some-last_of has es) refl (last_of-picked same has key pick es)
 
 -- the last that passes among what a map gives
 pub last_of-map : {E F : Type 0} (test : F → Bool) (f : E → F) (es : List E) → last_of test (map f es) ≡ option_map f (last_of (λ e. test (f e)) es)
