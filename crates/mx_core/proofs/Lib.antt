@@ -1,0 +1,5 @@
+pub mod Blocks
+pub mod Histories
+mod Machines
+pub mod Reached
+mod Sound
