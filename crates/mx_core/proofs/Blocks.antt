@@ -6,8 +6,9 @@ use Rattle.mx_core.specs.declared.machine.Block.{Block}
 
 pub block_at-start : (writers k : ℕ) → get_or {A = Option Block} (replicate writers None) k None ≡ None
 block_at-start writers k = elim (cases_lt k writers) [
-    inl lt ↦ get_or-replicate {A = Option Block} writers k None None lt
-  | inr ge ↦ get_or_past {X = Option Block} (replicate writers None) k None (omega (arith, length-replicate {A = Option Block} writers None)) ]
+  | inl lt ↦ get_or-replicate {A = Option Block} writers k None None lt
+  | inr ge ↦ get_or_past {X = Option Block} (replicate writers None) k None (omega (arith, length-replicate {A = Option Block} writers None))
+]
 
 pub block_at-here : (held : List (Option Block)) (k : ℕ) (v : Option Block) → k < length held → get_or (set held k v) k None ≡ v
 block_at-here held k v lt = get_or-set_same held k v None lt

@@ -50,11 +50,12 @@ item_of_within s p low high = rw (le-leb s.first p low) (slice_get_some s.items 
 
 pub item_of_range : {I : Type 0} (s : Stored I) (p : ℕ) → is_some (item_of s p) ≡ true → (s.first ≤ p) × (p < s.first + length s.items)
 item_of_range s p e = elim (cases_Bool (leb s.first p)) [
-    inl low ↦
-        let le : s.first ≤ p = leb-true s.first p low in
-        let inside : p - s.first < length s.items = slice_get_in s.items (p - s.first) (rw low at e) in
-        (le, omega arith)
-  | inr high ↦ absurd (false≢true (rw high at e)) ]
+  | inl low ↦
+      let le : s.first ≤ p = leb-true s.first p low in
+      let inside : p - s.first < length s.items = slice_get_in s.items (p - s.first) (rw low at e) in
+      (le, omega arith)
+  | inr high ↦ absurd (false≢true (rw high at e))
+]
 
 none_from : {A : Type 0} (o : Option A) → is_some o ≡ false → o ≡ None
 none_from None e = refl
@@ -68,8 +69,9 @@ no_item h p e = none_from (item_at h p) e
 pub stored_cases : {I : Type 0} (h : List (Stored I)) (s : Stored I) (p : ℕ) → is_stored (h ++ s ∷ []) p ≡ true
     → (is_stored h p ≡ true) ⊎ ((s.first ≤ p) × (p < s.first + length s.items))
 stored_cases h s p e = elim (or_cases (is_stored h p) (is_stored (s ∷ []) p) (sym (is_stored-append h (s ∷ []) p) ∙ e)) [
-    inl before ↦ inl before
-  | inr one ↦ inr (item_of_range s p (sym (is_stored-one s p) ∙ one)) ]
+  | inl before ↦ inl before
+  | inr one ↦ inr (item_of_range s p (sym (is_stored-one s p) ∙ one))
+]
 
 pub stored_still : {I : Type 0} (h k : List (Stored I)) (p : ℕ) → is_stored h p ≡ true → is_stored (h ++ k) p ≡ true
 stored_still h k p e = is_stored-append h k p ∙ or_left (is_stored h p) (is_stored k p) e

@@ -98,40 +98,48 @@ free_to_is : (n : ℕ) (held : List (Option Block)) → (free_to n held ≡ n) �
 free_to_is n [] = inl refl
 free_to_is n (None ∷ held) = elim (free_to_is n held) [ inl e ↦ inl e | inr f ↦ inr (suc f.0, f.1, f.2, f.3) ]
 free_to_is n (Some b ∷ held) = elim (free_to_is (min n (b.first - 1)) held) [
-    inl e ↦ elim (cases_lt n (b.first - 1)) [
-        inl lt ↦ inl (omega arith)
-      | inr ge ↦ inr (zero, b, refl, omega arith) ]
-  | inr f ↦ inr (suc f.0, f.1, f.2, f.3) ]
+  | inl e ↦ elim (cases_lt n (b.first - 1)) [
+    | inl lt ↦ inl (omega arith)
+    | inr ge ↦ inr (zero, b, refl, omega arith)
+  ]
+  | inr f ↦ inr (suc f.0, f.1, f.2, f.3)
+]
 
 pub reached_front : {I : Type 0} (s : State I) → IsReached s → IsFront s.history (free_to s.next s.held)
 reached_front s reached =
     let r = is_sound s reached in
     let top : free_to s.next s.held ≤ s.next = free_to_le s.next s.held in record {
-  stored = λ p pos le. elim (r.complete p pos (omega arith)) [
-      inl is ↦ is
-    | inr f ↦
-        let under : free_to s.next s.held ≤ f.1.first - 1 = free_to_below s.next s.held f.0 f.1 f.2 in
-        let some = r.held f.0 f.1 f.2 in
-        absurd (omega (arith, f.3, some.0)) ];
-  greatest = λ g all. elim (cases_lt (free_to s.next s.held) g) [
-      inl above ↦ elim (free_to_is s.next s.held) [
-          inl e ↦ let last = r.within g (all g (omega arith) (omega arith)) in absurd (omega (arith, last.1))
+      stored = λ p pos le. elim (r.complete p pos (omega arith)) [
+        | inl is ↦ is
         | inr f ↦
+            let under : free_to s.next s.held ≤ f.1.first - 1 = free_to_below s.next s.held f.0 f.1 f.2 in
             let some = r.held f.0 f.1 f.2 in
-            let is : free_to s.next s.held ≡ f.1.first - 1 = f.3 in
-            absurd (false≢true (sym (r.apart f.0 f.1 f.1.first f.2 (omega arith) (omega (arith, some.1))) ∙ all f.1.first (omega (arith, some.0)) (omega (arith, some.0)))) ]
-    | inr le ↦ le ];
-}
+            absurd (omega (arith, f.3, some.0))
+      ];
+      greatest = λ g all. elim (cases_lt (free_to s.next s.held) g) [
+        | inl above ↦ elim (free_to_is s.next s.held) [
+          | inl e ↦ let last = r.within g (all g (omega arith) (omega arith)) in absurd (omega (arith, last.1))
+          | inr f ↦
+              let some = r.held f.0 f.1 f.2 in
+              let is : free_to s.next s.held ≡ f.1.first - 1 = f.3 in
+              absurd (false≢true (sym (r.apart f.0 f.1 f.1.first f.2 (omega arith) (omega (arith, some.1))) ∙ all f.1.first (omega (arith, some.0)) (omega (arith, some.0))))
+        ]
+        | inr le ↦ le
+      ];
+    }
 
 -- the front law
 pub covers_no_unfinished_write : {I : Type 0} → CoversNoUnfinishedWrite I
 covers_no_unfinished_write writers limit steps s front run is =
-    let r = is_sound s (ran s writers limit steps run) in
-    (is.stored, λ k b held. elim (cases_lt front b.first) [
-        inl lt ↦ lt
-      | inr ge ↦
-          let some = r.held k b held in
-          absurd (false≢true (sym (r.apart k b b.first held (omega arith) (omega (arith, some.1))) ∙ is.stored b.first some.0 ge)) ])
+    let r = is_sound s (ran s writers limit steps run) in (
+      is.stored,
+      λ k b held. elim (cases_lt front b.first) [
+        | inl lt ↦ lt
+        | inr ge ↦
+            let some = r.held k b held in
+            absurd (false≢true (sym (r.apart k b b.first held (omega arith) (omega (arith, some.1))) ∙ is.stored b.first some.0 ge))
+      ],
+    )
 
 same_taken : {I : Type 0} (s t u : State I) (step : Step I) → Takes s step t → Takes s step u → t ≡ u
 same_taken s t u (Draw writer count) a b = a.3 ∙ sym b.3
@@ -160,8 +168,10 @@ none_before s reached p le =
 
 pub never_falls : {I : Type 0} → NeverFalls I
 never_falls writers limit steps more s t front later run longer is after =
-    let b = begins_run s t more (run_parts (start writers limit) s t steps more run longer) in
-    (front_below s.history b.0 front later is (subst (λ h. IsFront h later) b.1 after),
-     λ p le. elim (cases_lt 0 p) [
-         inl pos ↦ ap (λ h. item_at h p) b.1 ∙ item_kept s.history b.0 p (is.stored p pos le)
-       | inr none ↦ none_before t (ran t writers limit (steps ++ more) longer) p none ∙ sym (none_before s (ran s writers limit steps run) p none) ])
+    let b = begins_run s t more (run_parts (start writers limit) s t steps more run longer) in (
+      front_below s.history b.0 front later is (subst (λ h. IsFront h later) b.1 after),
+      λ p le. elim (cases_lt 0 p) [
+        | inl pos ↦ ap (λ h. item_at h p) b.1 ∙ item_kept s.history b.0 p (is.stored p pos le)
+        | inr none ↦ none_before t (ran t writers limit (steps ++ more) longer) p none ∙ sym (none_before s (ran s writers limit steps run) p none)
+      ],
+    )

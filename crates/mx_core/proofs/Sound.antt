@@ -23,8 +23,9 @@ pub record IsSound {I : Type 0} (s : State I) : Type 0 where
 block_cases : (held : List (Option Block)) (k j : ℕ) (v : Option Block) (b : Block) → k < length held → get_or (set held k v) j None ≡ Some b
     → ((j ≡ k) × (v ≡ Some b)) ⊎ ((j ≢ k) × (get_or held j None ≡ Some b))
 block_cases held k j v b lt e = elim (cases_eq j k) [
-    inl same ↦ inl (same, sym (block_at-here held k v lt) ∙ subst (λ i. get_or (set held k v) i None ≡ Some b) same e)
-  | inr other ↦ inr (other, sym (block_at-else held k j v other) ∙ e) ]
+  | inl same ↦ inl (same, sym (block_at-here held k v lt) ∙ subst (λ i. get_or (set held k v) i None ≡ Some b) same e)
+  | inr other ↦ inr (other, sym (block_at-else held k j v other) ∙ e)
+]
 
 held_count-set : (held : List (Option Block)) (k : ℕ) (v : Option Block) → k < length held → held_count (set held k v) + count_of (get_or held k None) ≡ held_count held + count_of v
 held_count-set [] k v lt = absurd (omega arith)
@@ -67,33 +68,40 @@ module _ {I : Type 0} (s : State I) (r : IsSound s) (k : ℕ) where
   drawn_held : (count : ℕ) → k < length s.held → 0 < count
       → (j : ℕ) (b : Block) → block_of (drawn s k count) j ≡ Some b → (0 < b.first) × (0 < b.count) × (b.first + b.count ≤ (s.next + count) + 1)
   drawn_held count lt pos j b e = elim (block_cases s.held k j _ b lt e) [
-      inl here ↦ let is = new_block (s.next + 1) count here.1 in (omega (arith, is.0), omega (arith, is.1), omega (arith, is.0, is.1))
-    | inr else ↦ let old = r.held j b else.1 in (old.0, old.1, omega (arith, old.2)) ]
+    | inl here ↦ let is = new_block (s.next + 1) count here.1 in (omega (arith, is.0), omega (arith, is.1), omega (arith, is.0, is.1))
+    | inr else ↦ let old = r.held j b else.1 in (old.0, old.1, omega (arith, old.2))
+  ]
 
   drawn_apart : (count : ℕ) → k < length s.held
       → (j : ℕ) (b : Block) (p : ℕ) → block_of (drawn s k count) j ≡ Some b → b.first ≤ p → p < b.first + b.count → is_stored s.history p ≡ false
   drawn_apart count lt j b p e low high = elim (block_cases s.held k j _ b lt e) [
-      inl here ↦ let is = new_block (s.next + 1) count here.1 in
-          false_from_ne_true (is_stored s.history p) (λ t. let old = r.within p t in omega (arith, is.0, old.1))
-    | inr else ↦ r.apart j b p else.1 low high ]
+    | inl here ↦ let is = new_block (s.next + 1) count here.1 in
+        false_from_ne_true (is_stored s.history p) (λ t. let old = r.within p t in omega (arith, is.0, old.1))
+    | inr else ↦ r.apart j b p else.1 low high
+  ]
 
   drawn_distinct : (count : ℕ) → k < length s.held
       → (i j : ℕ) (a b : Block) → i ≢ j → block_of (drawn s k count) i ≡ Some a → block_of (drawn s k count) j ≡ Some b → (a.first + a.count ≤ b.first) ⊎ (b.first + b.count ≤ a.first)
   drawn_distinct count lt i j a b ne ei ej = elim (block_cases s.held k i _ a lt ei) [
-      inl here ↦ elim (block_cases s.held k j _ b lt ej) [
-          inl both ↦ absurd (ne (here.0 ∙ sym both.0))
-        | inr else ↦ let is = new_block (s.next + 1) count here.1 in let old = r.held j b else.1 in inr (omega (arith, is.0, old.2)) ]
+    | inl here ↦ elim (block_cases s.held k j _ b lt ej) [
+      | inl both ↦ absurd (ne (here.0 ∙ sym both.0))
+      | inr else ↦ let is = new_block (s.next + 1) count here.1 in let old = r.held j b else.1 in inr (omega (arith, is.0, old.2))
+    ]
     | inr else ↦ elim (block_cases s.held k j _ b lt ej) [
-          inl here ↦ let is = new_block (s.next + 1) count here.1 in let old = r.held i a else.1 in inl (omega (arith, is.0, old.2))
-        | inr both ↦ r.distinct i j a b ne else.1 both.1 ] ]
+      | inl here ↦ let is = new_block (s.next + 1) count here.1 in let old = r.held i a else.1 in inl (omega (arith, is.0, old.2))
+      | inr both ↦ r.distinct i j a b ne else.1 both.1
+    ]
+  ]
 
   drawn_complete : (count : ℕ) → k < length s.held → block_of s k ≡ None
       → (p : ℕ) → 0 < p → p ≤ s.next + count → (is_stored s.history p ≡ true) ⊎ ((j : ℕ) × (b : Block) × (block_of (drawn s k count) j ≡ Some b) × (b.first ≤ p) × (p < b.first + b.count))
   drawn_complete count lt free p pos le = elim (cases_lt s.next p) [
-      inl above ↦ inr (k, record { first = s.next + 1; count = count }, block_at-here s.held k _ lt, omega arith, omega arith)
+    | inl above ↦ inr (k, record { first = s.next + 1; count = count }, block_at-here s.held k _ lt, omega arith, omega arith)
     | inr below ↦ elim (r.complete p pos below) [
-          inl old ↦ inl old
-        | inr old ↦ inr (old.0, old.1, block_at-else s.held k old.0 _ (λ same. none-some old.1 (sym free ∙ subst (λ i. block_of s i ≡ Some old.1) same old.2)) ∙ old.2, old.3, old.4) ] ]
+      | inl old ↦ inl old
+      | inr old ↦ inr (old.0, old.1, block_at-else s.held k old.0 _ (λ same. none-some old.1 (sym free ∙ subst (λ i. block_of s i ≡ Some old.1) same old.2)) ∙ old.2, old.3, old.4)
+    ]
+  ]
 
   pub sound_drawn : (count : ℕ) → k < length s.held → 0 < count → block_of s k ≡ None → s.next + count < s.limit → IsSound (drawn s k count)
   sound_drawn count lt pos free below = record {
@@ -103,9 +111,9 @@ module _ {I : Type 0} (s : State I) (r : IsSound s) (k : ℕ) where
     distinct = drawn_distinct count lt;
     complete = drawn_complete count lt free;
     counts =
-      let none : count_of (block_of s k) ≡ 0 = ap count_of free in
-      let more = held_count-set s.held k (Some (record { first = s.next + 1; count = count })) lt in
-      omega (arith, r.counts, none, more);
+        let none : count_of (block_of s k) ≡ 0 = ap count_of free in
+        let more = held_count-set s.held k (Some (record { first = s.next + 1; count = count })) lt in
+        omega (arith, r.counts, none, more);
     bound = omega arith;
     filled = r.filled;
   }
@@ -113,38 +121,44 @@ module _ {I : Type 0} (s : State I) (r : IsSound s) (k : ℕ) where
   stored_within : (b : Block) (items : List I) → block_of s k ≡ Some b → b.count ≡ length items
       → (p : ℕ) → is_stored (stored s k b.first items).history p ≡ true → (0 < p) × (p ≤ s.next)
   stored_within b items is count p e = elim (stored_cases s.history _ p e) [
-      inl old ↦ r.within p old
-    | inr new ↦ let old = r.held k b is in (omega (arith, old.0, new.0), omega (arith, old.2, new.1)) ]
+    | inl old ↦ r.within p old
+    | inr new ↦ let old = r.held k b is in (omega (arith, old.0, new.0), omega (arith, old.2, new.1))
+  ]
 
   kept_block : (b : Block) (items : List I) → k < length s.held
       → (j : ℕ) (c : Block) → block_of (stored s k b.first items) j ≡ Some c → (j ≢ k) × (block_of s j ≡ Some c)
   kept_block b items lt j c e = elim (block_cases s.held k j None c lt e) [
-      inl here ↦ absurd (none-some c here.1)
-    | inr else ↦ else ]
+    | inl here ↦ absurd (none-some c here.1)
+    | inr else ↦ else
+  ]
 
   stored_apart_else : (b : Block) (items : List I) → k < length s.held → block_of s k ≡ Some b → b.count ≡ length items
       → (j : ℕ) (c : Block) (p : ℕ) → block_of (stored s k b.first items) j ≡ Some c → c.first ≤ p → p < c.first + c.count → is_stored (stored s k b.first items).history p ≡ false
   stored_apart_else b items lt is count j c p e low high =
       let old = kept_block b items lt j c e in
       false_from_ne_true (is_stored (stored s k b.first items).history p) (λ t. elim (stored_cases s.history _ p t) [
-          inl before ↦ false≢true (sym (r.apart j c p old.1 low high) ∙ before)
+        | inl before ↦ false≢true (sym (r.apart j c p old.1 low high) ∙ before)
         | inr new ↦ elim (r.distinct j k c b old.0 old.1 is) [
-              inl under ↦ omega (arith, new.0)
-            | inr over ↦ omega (arith, new.1) ] ])
+          | inl under ↦ omega (arith, new.0)
+          | inr over ↦ omega (arith, new.1)
+        ]
+      ])
 
   stored_complete : (b : Block) (items : List I) → block_of s k ≡ Some b → b.count ≡ length items
       → (p : ℕ) → 0 < p → p ≤ s.next → (is_stored (stored s k b.first items).history p ≡ true) ⊎ ((j : ℕ) × (c : Block) × (block_of (stored s k b.first items) j ≡ Some c) × (c.first ≤ p) × (p < c.first + c.count))
   stored_complete b items is count p pos le = elim (r.complete p pos le) [
-      inl old ↦ inl (stored_still s.history _ p old)
+    | inl old ↦ inl (stored_still s.history _ p old)
     | inr old ↦ elim (cases_eq old.0 k) [
-          inl same ↦
-              let one : old.1 ≡ b = same_Some old.1 b (sym old.2 ∙ subst (λ i. block_of s i ≡ Some b) (sym same) is) in
-              let first : old.1.first ≡ b.first = ap (λ x. x.first) one in
-              let size : old.1.count ≡ b.count = ap (λ x. x.count) one in
-              let low : old.1.first ≤ p = old.3 in
-              let high : p < old.1.first + old.1.count = old.4 in
-              inl (stored_new s.history (record { writer = k; first = b.first; items = items }) p (omega arith) (omega arith))
-        | inr other ↦ inr (old.0, old.1, block_at-else s.held k old.0 None other ∙ old.2, old.3, old.4) ] ]
+      | inl same ↦
+          let one : old.1 ≡ b = same_Some old.1 b (sym old.2 ∙ subst (λ i. block_of s i ≡ Some b) (sym same) is) in
+          let first : old.1.first ≡ b.first = ap (λ x. x.first) one in
+          let size : old.1.count ≡ b.count = ap (λ x. x.count) one in
+          let low : old.1.first ≤ p = old.3 in
+          let high : p < old.1.first + old.1.count = old.4 in
+          inl (stored_new s.history (record { writer = k; first = b.first; items = items }) p (omega arith) (omega arith))
+      | inr other ↦ inr (old.0, old.1, block_at-else s.held k old.0 None other ∙ old.2, old.3, old.4)
+    ]
+  ]
 
   pub sound_stored : (b : Block) (items : List I) → k < length s.held → block_of s k ≡ Some b → b.count ≡ length items → IsSound (stored s k b.first items)
   sound_stored b items lt is count = record {
@@ -154,10 +168,10 @@ module _ {I : Type 0} (s : State I) (r : IsSound s) (k : ℕ) where
     distinct = λ i j a c ne ei ej. r.distinct i j a c ne (kept_block b items lt i a ei).1 (kept_block b items lt j c ej).1;
     complete = stored_complete b items is count;
     counts =
-      let size : count_of (block_of s k) ≡ b.count = ap count_of is in
-      let less = held_count-set s.held k None lt in
-      let more = stored_count-append s.history (record { writer = k; first = b.first; items = items } ∷ []) in
-      omega (arith, r.counts, size, less, more);
+        let size : count_of (block_of s k) ≡ b.count = ap count_of is in
+        let less = held_count-set s.held k None lt in
+        let more = stored_count-append s.history (record { writer = k; first = b.first; items = items } ∷ []) in
+        omega (arith, r.counts, size, less, more);
     bound = r.bound;
     filled = filled-push s.history _ r.filled (let old = r.held k b is in omega (arith, old.1));
   }
