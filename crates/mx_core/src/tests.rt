@@ -81,6 +81,7 @@ fn laws_hold_of_numbers() {
     front_never_falls::<u64>();
 }
 
+#[derive(Drop)]
 struct Numbered {
     at: u64,
 }
