@@ -7,7 +7,7 @@ use Rattle.mx_core.specs.declared.machine.Block.{Block}
 use Rattle.mx_core.specs.Front.{IsFront}
 use Rattle.mx_core.specs.Machine.{IsMachine}
 use Rattle.mx_core.specs.Runs.{IsReached}
-use Rattle.mx_core.specs.State.{State, block_of, start, drawn, stored, free_to}
+use Rattle.mx_core.specs.State.{State, block_of, free_to}
 use Rattle.mx_core.proofs.Reached.{reached_start, reached_drawn, reached_stored, reached_front, held_in}
 
 -- a block that was read in a list, at the default of a missing one

@@ -1,17 +1,15 @@
 -- The laws of reached states, and of their fronts.
-use Rattle.std.proofs.Common.{◌≡◌, ◌≢◌, ℕ, ◌+◌, ◌-◌, ◌<◌, ◌≤◌, ◌⊎◌, zero, suc, true, false, List, [], ◌∷◌, ◌++◌, Option, Some, None, length, get_or, set, min, refl, sym, ap, ◌∙◌, subst, inl, inr, arith}
+use Rattle.std.proofs.Common.{◌≡◌, ◌≢◌, ℕ, ◌+◌, ◌-◌, ◌<◌, ◌≤◌, ◌⊎◌, zero, suc, true, false, List, [], ◌∷◌, ◌++◌, Option, Some, None, length, get_or, min, refl, sym, ap, ◌∙◌, subst, inl, inr, arith}
 use Rattle.std.proofs.lemmas.Bool.{cases_lt, false≢true, false_from_ne_true}
 use Rattle.std.proofs.lemmas.Option.{same_Some}
-use Rattle.std.proofs.lemmas.List.{append_assoc}
-use Rattle.mx_core.specs.declared.history.Stored.{Stored}
 use Rattle.mx_core.specs.declared.machine.Block.{Block}
 use Rattle.mx_core.specs.declared.machine.Step.{Step}
 use Rattle.mx_core.specs.declared.machine.Step.TheVariants.{Draw, Store}
-use Rattle.mx_core.specs.Front.{AllStored, IsFront}
+use Rattle.mx_core.specs.Front.{IsFront}
 use Rattle.mx_core.specs.History.{item_at, is_stored, stored_count, Begins}
 use Rattle.mx_core.specs.Moves.{Takes}
 use Rattle.mx_core.specs.Runs.{Runs, IsReached, CoversNoUnfinishedWrite, NeverFalls}
-use Rattle.mx_core.specs.State.{State, start, block_of, drawn, stored, count_of, held_count, before_block, free_to}
+use Rattle.mx_core.specs.State.{State, start, block_of, drawn, stored, held_count, before_block, free_to}
 use Rattle.mx_core.proofs.Histories.{no_item, item_kept, front_below, begins_self, begins_trans}
 use Rattle.mx_core.proofs.Sound.{IsSound, sound_start, sound_drawn, sound_stored, filled_length}
 

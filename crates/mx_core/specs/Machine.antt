@@ -1,5 +1,5 @@
 -- What holds of each machine.
-use Rattle.std.specs.Prelude.{ℕ, ◌≤◌, ◌^◌, length}
+use Rattle.std.specs.Prelude.{◌≤◌, ◌^◌, length}
 use Rattle.mx_core.specs.Runs.{IsReached}
 use Rattle.mx_core.specs.State.{State}
 

@@ -1,5 +1,5 @@
 -- One step of a machine, what it answers, and why it is refused.
-use Rattle.std.specs.Prelude.{◌≡◌, ◌≢◌, ℕ, ◌+◌, ◌<◌, ◌≤◌, None, Some, length}
+use Rattle.std.specs.Prelude.{◌≡◌, ◌≢◌, ◌+◌, ◌<◌, ◌≤◌, None, Some, length}
 use Rattle.mx_core.specs.declared.machine.Block.{Block}
 use Rattle.mx_core.specs.declared.machine.Step.{Step}
 use Rattle.mx_core.specs.declared.machine.Step.TheVariants.{Draw, Store}

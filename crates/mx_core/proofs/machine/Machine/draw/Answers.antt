@@ -1,4 +1,4 @@
-use Rattle.std.proofs.Common.{◌≡◌, ◌<◌, length, ap, arith}
+use Rattle.std.proofs.Common.{◌<◌, length, ap, arith}
 use Rattle.mx_core.specs.State.{State}
 use Rattle.mx_core.proofs.Machines.{block_read, machine_drawn}
 use Rattle.mx_core.proofs.Reached.{reached_bound}

@@ -1,4 +1,4 @@
-use Rattle.std.proofs.Common.{◌≡◌, None, replicate, rules}
+use Rattle.std.proofs.Common.{rules}
 use Rattle.mx_core.proofs.Machines.{machine_start}
 use Rattle.mx_core.proofs.machine.Machine.new.Goals as goal
 

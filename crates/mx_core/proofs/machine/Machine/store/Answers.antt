@@ -1,4 +1,4 @@
-use Rattle.std.proofs.Common.{◌≡◌, ◌<◌, length, ap, sym, arith}
+use Rattle.std.proofs.Common.{◌<◌, length, ap, sym, arith}
 use Rattle.mx_core.specs.State.{State}
 use Rattle.mx_core.proofs.Machines.{block_read, machine_stored}
 use Rattle.mx_core.proofs.machine.Machine.store.Goals as goal
