@@ -1,14 +1,14 @@
 -- The order of stores by position: what it names, how far it reaches, and what one store more leaves.
-use Rattle.std.proofs.Common.{◌≡◌, ◌≢◌, ℕ, ◌+◌, ◌-◌, ◌<◌, ◌≤◌, ◌^◌, ◌⊎◌, zero, suc, Bool, true, false, ◌||◌, List, [], ◌∷◌, ◌++◌, Option, Some, None, length, get_or, take, drop, min, refl, sym, ap, ◌∙◌, subst, inl, inr, arith}
+use Rattle.std.proofs.Common.{◌≡◌, ◌≢◌, ℕ, ◌+◌, ◌-◌, ◌<◌, ◌≤◌, ◌^◌, ◌⊎◌, zero, suc, true, false, List, [], ◌∷◌, ◌++◌, Option, Some, None, length, get_or, take, drop, min, refl, sym, ap, ◌∙◌, subst, inl, inr, arith}
 use Rattle.std.specs.List.{AllByRecursion, slice_get}
 use Rattle.std.specs.Option.{option_or, option_to_list, is_some}
-use Rattle.std.proofs.lemmas.Bool.{cases_Bool, cases_lt, or_cases, or_parts, or_left, or_right, le-leb, false_from_ne_true, false≢true}
+use Rattle.std.proofs.lemmas.Bool.{cases_Bool, cases_lt, or_cases, or_right, le-leb, false_from_ne_true, false≢true}
 use Rattle.std.proofs.lemmas.Option.{same_Some, none-some, slice_get-get_or, slice_get_within}
-use Rattle.std.proofs.lemmas.List.{take-append-drop, take_at, drop_at, drop_all, drop-drop, length-append, length-take, length-drop, take_min, append_assoc}
+use Rattle.std.proofs.lemmas.List.{take-append-drop, take_at, drop_at, drop_all, drop-drop, length-append, length-take, take_min, append_assoc}
 use Rattle.mx_core.specs.declared.history.Stored.{Stored}
-use Rattle.mx_core.specs.Front.{AllStored, IsFront}
+use Rattle.mx_core.specs.Front.{IsFront}
 use Rattle.mx_core.specs.History.{item_of, item_at, is_stored}
-use Rattle.mx_core.proofs.Histories.{item_at-append, is_stored-append, stored_new, stored_still, stored_cases, no_item, item_of_range, item_kept}
+use Rattle.mx_core.proofs.Histories.{item_at-append, is_stored-append, stored_new, stored_still, stored_cases, no_item, item_kept}
 use Rattle.mx_lanes.specs.Order.{by_index, items_of, Reaches, Ascends, IsReach}
 
 -- items of lists by their place

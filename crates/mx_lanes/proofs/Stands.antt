@@ -6,7 +6,7 @@ use Rattle.mx_core.specs.declared.history.Stored.{Stored}
 use Rattle.mx_core.specs.Front.{IsFront}
 use Rattle.mx_core.specs.History.{is_stored}
 use Rattle.mx_core.proofs.Histories.{stored_cases}
-use Rattle.mx_lanes.specs.Held.{Held, empty, StandsFor, Keeps}
+use Rattle.mx_lanes.specs.Held.{Held, empty, StandsFor}
 use Rattle.mx_lanes.specs.Laws.{OneHistory, OneStoreMore, StandsStill}
 
 pub one_history : {I : Type 0} → OneHistory I

@@ -1,4 +1,4 @@
-use Rattle.std.proofs.Common.{◌+◌, length, sym, subst, arith}
+use Rattle.std.proofs.Common.{◌+◌, sym, subst, arith}
 use Rattle.mx_lanes.specs.Order.{by_index, IsReach}
 use Rattle.mx_lanes.proofs.Orders.{reach_more, reach_stop, reach_end, length-by_index}
 use Rattle.mx_lanes.proofs.order.advanced.Goals as goal

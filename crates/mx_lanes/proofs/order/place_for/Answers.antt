@@ -1,4 +1,4 @@
-use Rattle.std.proofs.Common.{◌<◌, ◌≤◌, length, arith}
+use Rattle.std.proofs.Common.{◌<◌, length, arith}
 use Rattle.mx_lanes.specs.Order.{by_index}
 use Rattle.mx_lanes.proofs.Books.{above_none}
 use Rattle.mx_lanes.proofs.Orders.{above_more, length-by_index}

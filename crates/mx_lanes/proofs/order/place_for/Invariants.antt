@@ -1,4 +1,4 @@
-use Rattle.std.proofs.Common.{◌≡◌, ◌<◌, ◌≤◌, length, drop}
+use Rattle.std.proofs.Common.{◌<◌, ◌≤◌, length, drop}
 use Rattle.std.specs.List.{AllByRecursion}
 use Rattle.mx_lanes.specs.Order.{by_index}
 use Rattle.mx_lanes.proofs.order.place_for.Given as goal

@@ -1,4 +1,4 @@
-use Rattle.std.proofs.Common.{◌≤◌, length, sym, ap, ◌∙◌, arith}
+use Rattle.std.proofs.Common.{length, sym, ap, ◌∙◌, arith}
 use Rattle.mx_lanes.proofs.Books.{book_same, book_within, is_place, is_put, when_ok}
 use Rattle.mx_lanes.proofs.order.put_store.Goals as goal
 

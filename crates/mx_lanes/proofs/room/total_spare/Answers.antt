@@ -1,4 +1,4 @@
-use Rattle.std.proofs.Common.{◌≡◌, ◌<◌, get_or, length, arith}
+use Rattle.std.proofs.Common.{◌≡◌, get_or, arith}
 use Rattle.mx_lanes.proofs.Books.{total_more}
 use Rattle.mx_lanes.proofs.room.total_spare.Goals as goal
 
