@@ -1,3 +1,4 @@
+pub mod Form
 pub mod Numerals
 pub mod Read
 pub mod Sync

@@ -1,7 +1,7 @@
 -- Reading a sync token: what is read is spelled so, what is spelled so is read, and what is said of it.
-use Rattle.std.proofs.Common.{◌≡◌, ◌≢◌, ℕ, ◌+◌, ◌-◌, ◌^◌, ◌<◌, ◌≤◌, min, Bool, true, false, cond, ◌&&◌, ltb, eqb, length, List, [], ◌∷◌, ◌++◌, Option, Some, None, Result, Ok, Err, decimal, refl, sym, ap, subst, ◌∙◌, arith, append-nil, inl, inr, ◌⊎◌, IfOk, IsErrOf, ◌↔◌}
+use Rattle.std.proofs.Common.{◌≡◌, ◌≢◌, ℕ, ◌+◌, ◌-◌, ◌^◌, ◌<◌, ◌≤◌, min, true, cond, ltb, eqb, length, List, [], ◌∷◌, ◌++◌, Option, Some, None, Result, Ok, Err, decimal, refl, sym, ap, subst, ◌∙◌, arith, append-nil, inl, inr, ◌⊎◌, IfOk, IsErrOf, ◌↔◌}
 use Rattle.std.proofs.lemmas.Option.{cond_some, same_Some, option_and_then_some}
-use Rattle.std.proofs.lemmas.Bool.{cases_lt, cases_Bool, cond-true, cond-false, and_parts, and_from, eqb-true, ltb-true, ltb-false, lt-ltb, le-ltb, true≢false}
+use Rattle.std.proofs.lemmas.Bool.{cases_lt, cases_Bool, cond-true, cond-false, and_parts, and_from, eqb-true, ltb-true, lt-ltb, le-ltb, true≢false}
 use Rattle.std.specs.Option.{option_and_then}
 use mathlib.Core.Logic.{⊎_elim}
 use Rattle.mx_ids.specs.Decimal.{numeral}

@@ -1,5 +1,5 @@
 -- The text of a sync token, and which tokens are in range and in order.
-use Rattle.std.specs.Prelude.{◌≡◌, ℕ, ◌^◌, ◌<◌, ◌≤◌, Bool, ◌&&◌, nat_lt, ◌==◌, length, if◌then◌else◌, List, [], ◌∷◌, ◌++◌, Option, Some, None, Result, Ok, Err, option_and_then}
+use Rattle.std.specs.Prelude.{ℕ, ◌^◌, ◌<◌, Bool, ◌&&◌, nat_lt, ◌==◌, length, if◌then◌else◌, List, ◌∷◌, ◌++◌, Option, Some, None, Result, Ok, Err, option_and_then}
 use Rattle.mx_ids.specs.Decimal.{numeral}
 use Rattle.mx_ids.specs.Mark.{marked_at}
 use Rattle.mx_ids.specs.declared.sync_token.SyncToken.{SyncToken}
