@@ -1,4 +1,4 @@
--- The forms of a server's name and of the words of the users file.
+-- The forms of a server's name (Appendices, Server Name), and of localparts, device ids and access tokens.
 use Rattle.std.specs.Prelude.{ℕ, Bool, ◌&&◌, ◌||◌, nat_le, ◌==◌, length, List}
 use Rattle.std.specs.Char.{is_ascii_alphanumeric, is_ascii_digit, is_ascii_lowercase}
 use Rattle.std.specs.List.{list_all, before_first, after_first}
@@ -21,11 +21,10 @@ is_port text = is_text_of 1 5 is_ascii_digit text
 abbrev pub is_server_name : List ℕ → Bool
 is_server_name text = is_host text || (is_host (before_first (λ c. c == 58) text) && is_port (after_first (λ c. c == 58) text))
 
--- `a-z`, `0-9`, `.`, `_`, `=`, `-`, `/` and `+`
+-- `a-z`, `0-9`, `.`, `_`, `=`, `-`, `/` and `+` (Appendices, User Identifiers)
 abbrev pub is_localpart_byte : ℕ → Bool
 is_localpart_byte c = is_ascii_lowercase c || is_ascii_digit c || (c == 46) || (c == 95) || (c == 61) || (c == 45) || (c == 47) || (c == 43)
 
--- its greatest length is that of the user id, 255
 abbrev pub is_localpart : List ℕ → Bool
 is_localpart text = nat_le 1 (length text) && list_all is_localpart_byte text
 

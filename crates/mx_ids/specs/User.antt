@@ -1,4 +1,4 @@
--- The form of a user id, `@localpart:server`.
+-- The form of a user id, `@localpart:server` (Appendices, User Identifiers).
 use Rattle.std.specs.Prelude.{◌≡◌, ℕ, ◌<◌, ◌≤◌, Bool, true, false, not, ◌&&◌, nat_le, ◌==◌, length, List, [], ◌∷◌, ◌++◌}
 use Rattle.std.specs.Char.{is_ascii_graphic}
 use Rattle.std.specs.List.{list_all, before_first, after_first}

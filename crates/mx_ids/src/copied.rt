@@ -5,9 +5,9 @@ use crate::seq::Seq;
 use crate::text::Text;
 use std::alloc::Global;
 
-/// A value of which an equal one can be made.
+/// A value of which an equal one can be made. What a stream or a reply holds is of such a type.
 pub trait Copied: Sized + Drop {
-    /// An equal value. `Memory` where the allocator refuses what a text or list in it needs.
+    /// An equal value. `Memory` where an allocation that its texts and lists need is refused.
     fn copy(&self, alloc: Global) -> Result<Self, Memory>
         ensures { IfOk result (λ c. c ≡ self.now) };
 }

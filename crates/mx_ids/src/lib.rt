@@ -6,6 +6,8 @@ mod memory;
 mod number;
 mod seq;
 mod sync_token;
+#[cfg(test)]
+mod tests;
 mod text;
 mod user;
 mod users;

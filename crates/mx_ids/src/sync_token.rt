@@ -55,12 +55,12 @@ pub fn read_sync_token(text: &str) -> Result<SyncToken, TokenFault>
     judge(text.as_bytes())
 }
 
-/// No two tokens have one text.
+/// A law, with nothing to run: no two sync tokens have one text.
 pub fn sync_text_is_injective()
     ensures { (t u : SyncToken) → sync_text t ≡ sync_text u → t ≡ u }
 {}
 
-/// Appends the text of a token. `Memory` leaves `out` as it was.
+/// Appends the text of a token, `s{e}_{r}_{a}_{d}_{b}`. `Memory` leaves `out` as it was.
 pub fn write_sync_token(alloc: Global, token: &SyncToken, out: &mut Text) -> Result<(), Memory>
     ensures ok { OnOk result (out.new ≡ out.old ++ sync_text token.now) }
     ensures same { OnErr result (out.new ≡ out.old) }

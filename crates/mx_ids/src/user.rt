@@ -17,8 +17,8 @@ use std::cmp::Ordering;
 use std::hash::{Hash, Hasher};
 use std::marker::Model;
 
-/// A user id, `@localpart:server` (Client-Server API, User Identifiers): a text that
-/// `is_user_id` accepts.
+/// A user id, `@localpart:server` (Appendices, User Identifiers): a text that `is_user_id`
+/// accepts. Equal, ordered and hashed by its bytes.
 #[derive(Debug, Drop)]
 pub struct UserId {
     text: Text,
@@ -97,6 +97,7 @@ fn all_graphic(bytes: &[u8]) -> bool
 }
 
 impl UserId {
+    /// The id as a text, borrowed.
     pub fn as_text(&self) -> &Text
         ensures text { result.now ≡ self.now }
         ensures form { IsUserId self.now }
@@ -104,6 +105,7 @@ impl UserId {
         &self.text
     }
 
+    /// The id as a `str`, borrowed.
     pub fn as_str(&self) -> &str
         ensures text { result.now ≡ self.now }
         ensures form { IsUserId self.now }

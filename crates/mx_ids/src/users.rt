@@ -2,8 +2,8 @@ use crate::seq::Seq;
 use crate::text::Text;
 use crate::user::UserId;
 
-/// The users of one server, and their devices. A user's number is its index in `users`, and a
-/// device's number its index in `devices`.
+/// The users of one server, at most 4,096, and their devices, at most 8,192. A user's number is
+/// its index in `users`, and a device's number its index in `devices`.
 #[derive(Debug, Drop)]
 pub struct Users {
     pub server: Text,
@@ -17,6 +17,8 @@ pub struct Users {
 pub struct Device {
     /// The user's number.
     pub user: u32,
+    /// The device id: 1 to 64 letters, digits, `_` and `-`.
     pub name: Text,
+    /// The access token: 1 to 255 letters, digits, `_`, `-`, `.` and `~`.
     pub token: Text,
 }
