@@ -47,7 +47,7 @@ local_from (x ∷ xs) g o =
     let os = and_parts (is_other x) (list_all is_other xs) o in
     and_from (is_local_byte x) (list_all is_local_byte xs) (and_from (is_ascii_graphic x) (is_other x) gs.0 os.0) (local_from xs gs.1 os.1)
 
-local_parts : (xs : List ℕ) → list_all is_local_byte xs ≡ true → (list_all is_ascii_graphic xs ≡ true) × (list_all is_other xs ≡ true)
+pub local_parts : (xs : List ℕ) → list_all is_local_byte xs ≡ true → (list_all is_ascii_graphic xs ≡ true) × (list_all is_other xs ≡ true)
 local_parts [] h = (refl, refl)
 local_parts (x ∷ xs) h =
     let both = and_parts (is_local_byte x) (list_all is_local_byte xs) h in

@@ -2,6 +2,7 @@ ghost use Rattle.std.specs.Prelude.{◌≡◌, IfOk};
 
 use crate::memory::Memory;
 use crate::seq::Seq;
+use crate::sync_token::SyncToken;
 use crate::text::Text;
 use std::alloc::Global;
 
@@ -50,6 +51,12 @@ impl Copied for u64 {
 
 impl Copied for i64 {
     fn copy(&self, _alloc: Global) -> Result<i64, Memory> {
+        Ok(*self)
+    }
+}
+
+impl Copied for SyncToken {
+    fn copy(&self, _alloc: Global) -> Result<SyncToken, Memory> {
         Ok(*self)
     }
 }

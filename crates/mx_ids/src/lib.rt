@@ -20,4 +20,4 @@ pub use sync_token::{
 };
 pub use text::Text;
 pub use user::{UserId, is_user_id, user_id};
-pub use users::{Device, Users};
+pub use users::{Device, Users, user_of_server_has_user_id};

@@ -1,3 +1,8 @@
+ghost use Rattle.std.specs.Prelude.{◌≡◌, true, List, ℕ};
+ghost use Rattle.mx_ids.specs.Name.{is_server_name};
+ghost use Rattle.mx_ids.specs.User.{server_of, IsUserId};
+ghost use Rattle.mx_ids.specs.Users.{IsUserOf};
+
 use crate::seq::Seq;
 use crate::text::Text;
 use crate::user::UserId;
@@ -22,3 +27,10 @@ pub struct Device {
     /// The access token: 1 to 255 letters, digits, `_`, `-`, `.` and `~`.
     pub token: Text,
 }
+
+/// A law, with nothing to run: what the users file names as a user of a server has the form of a
+/// user id, and this server is the part behind its first `:`.
+pub fn user_of_server_has_user_id()
+    ensures form { (server id : List ℕ) → is_server_name server ≡ true → IsUserOf server id → IsUserId id }
+    ensures server { (server id : List ℕ) → IsUserOf server id → server_of id ≡ server }
+{}
