@@ -1,0 +1,3 @@
+pub mod Order
+pub mod Fractions
+pub mod Reading

@@ -1,0 +1,15 @@
+//! JSON values: read from text, written as compact text, and copied.
+#![tactic(auto)]
+
+mod copied;
+mod fault;
+mod members;
+mod numbers;
+mod reader;
+mod value;
+mod writer;
+
+pub use fault::JsonFault;
+pub use members::{Member, Members};
+pub use reader::read;
+pub use value::Json;
