@@ -6,6 +6,7 @@ mod fault;
 mod members;
 mod numbers;
 mod reader;
+mod size;
 mod value;
 mod writer;
 
