@@ -1,5 +1,5 @@
 //! The length of the compact text.
-ghost use Rattle.std.specs.Prelude.{◌≡◌, ◌+◌, ◌-◌, ◌^◌, min, length, decimal, false};
+ghost use Rattle.std.specs.Prelude.{◌≡◌, ◌≤◌, ◌∷◌, ◌-◌, ◌^◌, min, length, decimal, false};
 ghost use Rattle.std.specs.Fmt.{signed_decimal};
 ghost use Rattle.json.specs.Print.{quoted, escape_byte};
 ghost use Rattle.mx_json.specs.Texts.{json_text, list_text, object_text};
@@ -33,8 +33,9 @@ impl Json {
 
 /// Each item stands before a comma or the closing bracket.
 #[cycle(size)]
+#[tactic(auto, using(crate::proofs::Sizes::none_listed))]
 fn list_size(items: &Seq<Json>) -> u64
-    ensures { result ≡ min (1 + length (list_text false items.now)) (2 ^ 64 - 1) }
+    ensures { result ≡ min (length (91 ∷ list_text false items.now)) (2 ^ 64 - 1) }
 {
     if items.is_empty() {
         return 2;
@@ -48,8 +49,9 @@ fn list_size(items: &Seq<Json>) -> u64
 
 /// Each member has a colon, and stands before a comma or the closing brace.
 #[cycle(size)]
+#[tactic(auto, using(crate::proofs::Sizes::no_members))]
 fn members_size(members: &Members<Json>) -> u64
-    ensures { result ≡ min (1 + length (object_text false members.now)) (2 ^ 64 - 1) }
+    ensures { result ≡ min (length (123 ∷ object_text false members.now)) (2 ^ 64 - 1) }
 {
     if members.is_empty() {
         return 2;
@@ -63,6 +65,7 @@ fn members_size(members: &Members<Json>) -> u64
 }
 
 /// The length of a text between quotes.
+#[tactic(auto, using(crate::proofs::Sizes::quoted_len, crate::proofs::Sizes::escape_more))]
 fn quoted_size(text: &str) -> u64
     ensures { result ≡ min (length (quoted text.now)) (2 ^ 64 - 1) }
 {
@@ -96,12 +99,14 @@ fn integer_size(n: i64) -> u64
 }
 
 /// How many digits a number has.
+#[tactic(auto, using(crate::proofs::Sizes::digits_step, crate::proofs::Sizes::one_digit, crate::proofs::Sizes::few_digits))]
 fn decimal_size(n: u64) -> u64
-    ensures { result ≡ length (decimal n) }
+    ensures value { result ≡ length (decimal n) }
+    ensures few { result ≤ 20 }
 {
-    let mut rest = n / 10;
+    let mut rest = n;
     let mut size: u64 = 1;
-    while rest > 0 {
+    while rest >= 10 {
         rest /= 10;
         size += 1;
     }
