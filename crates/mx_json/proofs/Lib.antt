@@ -5,3 +5,4 @@ pub mod Induction
 pub mod Data
 pub mod Texts
 pub mod Sizes
+pub mod Whole

@@ -9,8 +9,10 @@ use Rattle.mx_json.specs.declared.fault.JsonFault.TheVariants as faults
 use Rattle.mx_json.specs.declared.value.Json.{Json}
 use Rattle.mx_json.specs.Numbers.{any_number, has_large}
 use Rattle.mx_json.specs.Reading.{checked, found, read_json}
-use Rattle.mx_json.specs.Values.{json_of}
-use Rattle.mx_json.proofs.Fractions.{any_float}
+use Rattle.mx_json.specs.Values.{data_of, json_of}
+use Rattle.mx_json.specs.Laws.{IsInRange}
+use Rattle.mx_json.proofs.Fractions.{any_float, is_whole}
+use Rattle.mx_json.proofs.Whole.{comes}
 
 pub a_fraction : (d : Data) → any_number is_float d ≡ true → checked d ≡ Err faults.Fraction
 unfolding checked
@@ -35,3 +37,8 @@ no_text_by text false e none = rw e refl
 
 pub no_text : (text : List ℕ) → (IsUtf8 text → read text ≡ None) → read_json text ≡ Err faults.NotJson
 no_text text none = no_text_by text _ refl none
+
+-- a text whose data are those of a value in range is read as the value
+pub reads_as : (text : List ℕ) (j : Json) → IsUtf8 text → read text ≡ Some (data_of j) → IsInRange j → read_json text ≡ Ok j
+reads_as text j utf8 is range =
+    a_text text (data_of j) utf8 is ∙ in_range (data_of j) j (any_float (data_of j) ∙ is_whole j) range (sym (comes j range))

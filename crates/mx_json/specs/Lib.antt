@@ -4,3 +4,4 @@ pub mod Values
 pub mod Numbers
 pub mod Reading
 pub mod Texts
+pub mod Laws

@@ -3,6 +3,7 @@
 
 mod copied;
 mod fault;
+mod laws;
 mod members;
 mod numbers;
 mod reader;
@@ -11,6 +12,7 @@ mod value;
 mod writer;
 
 pub use fault::JsonFault;
+pub use laws::data_is_whole;
 pub use members::{Member, Members};
 pub use reader::read;
 pub use value::Json;

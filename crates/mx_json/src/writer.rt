@@ -1,7 +1,11 @@
 //! Writing a value as compact text.
-ghost use Rattle.std.specs.Prelude.{◌≡◌, ◌++◌, IfOk, OnOk, OnErr};
+ghost use Rattle.std.specs.Prelude.{◌≡◌, ◌≤◌, ◌++◌, Ok, IfOk, OnOk, OnErr};
+ghost use Rattle.serde_json.specs.Data.{depth};
+ghost use Rattle.serde_json.specs.Read.{max_depth};
 ghost use Rattle.serde_json.specs.View.{view, items_view, members_view};
 ghost use Rattle.mx_json.specs.Values.{data_of, items_data, members_data};
+ghost use Rattle.mx_json.specs.Laws.{IsInRange};
+ghost use Rattle.mx_json.specs.Reading.{read_json};
 ghost use Rattle.mx_json.specs.Texts.{json_text};
 
 use crate::members::Member;
@@ -14,9 +18,13 @@ use std::alloc::Global;
 impl Json {
     /// Appends the compact text (RFC 8259, with no space between tokens): each key in byte order, whole numbers in
     /// decimal, and of the escapes only those that a text needs, the shortest. `Memory` leaves `out` as it was.
+    ///
+    /// The text of a value in range that nests at most 127 deep reads back as the value.
     pub fn write(&self, alloc: Global, out: &mut Text) -> Result<(), Memory>
         ensures ok { OnOk result (out.new ≡ out.old ++ json_text self.now) }
         ensures same { OnErr result (out.new ≡ out.old) }
+        ensures reads_back { OnOk result (IsInRange self.now → depth (data_of self.now) ≤ max_depth
+            → read_json (json_text self.now) ≡ Ok self.now) }
     {
         let text = value_of(alloc, self)?.to_string(alloc)?;
         out.push_str(text.as_str())
