@@ -11,8 +11,11 @@ mod size;
 mod value;
 mod writer;
 
+#[cfg(test)]
+mod tests;
+
 pub use fault::JsonFault;
-pub use laws::data_is_whole;
+pub use laws::{data_is_whole, text_reads_back};
 pub use members::{Member, Members};
 pub use reader::read;
 pub use value::Json;
