@@ -1,18 +1,17 @@
 -- The compact text of a value reads back as the value.
-use Rattle.std.proofs.Common.{◌≡◌, ◌≤◌, ◌<◌, ◌^◌, ℕ, suc, max, ℤ, pos, negsuc, List, [], ◌∷◌, ◌++◌, Bool, true, false, nat_lt, nat_le, ◌&&◌, Option, Some, Ok, IsUtf8, option_map, option_and_then, refl, sym, ap, ap₂, subst, ◌∙◌, arith, append_assoc, append-nil}
+use Rattle.std.proofs.Common.{◌≡◌, ◌≤◌, ◌<◌, ◌^◌, suc, max, ℤ, pos, negsuc, List, [], ◌∷◌, ◌++◌, Bool, true, false, Option, Some, Ok, IsUtf8, option_map, option_and_then, refl, sym, ap, ap₂, subst, ◌∙◌, arith, append_assoc, append-nil}
 use Rattle.std.proofs.lemmas.Bool.{and_parts, or_parts}
 use Rattle.std.proofs.lemmas.Bool.Decides.{nat_tests}
 use Rattle.std.proofs.lemmas.Fmt.{IsAscii-signed}
 use Rattle.std.proofs.lemmas.List.{map-append}
 use Rattle.std.proofs.lemmas.Str.{IsUtf8-append, IsUtf8-nil, IsUtf8-from_ascii, IsUtf8-from_is_utf8}
-use Rattle.std.specs.Fmt.{signed_decimal}
 use Rattle.std.specs.Str.{is_utf8}
 use Rattle.std.specs.Int.Signed.{mag}
 use Rattle.std.specs.List.{AllByRecursion}
 use Rattle.json.specs.Json.{value, if_last}
 use Rattle.json.specs.Json as parsed
 use Rattle.json.specs.Lex.{tokens}
-use Rattle.json.specs.Print.{IsNumber, quoted}
+use Rattle.json.specs.Print.{IsNumber}
 use Rattle.json.specs.Token.{Token}
 use Rattle.json.specs.Tree as tree
 use Rattle.json.proofs.Printed.Decimals.{IsNumber-signed_decimal}
@@ -21,23 +20,23 @@ use Rattle.json.proofs.Printed.Trees.{ArePrintable-json_tokens, value-json_token
 use Rattle.json.proofs.Printed.Utf8.{IsUtf8-quoted, IsUtf8-boolean, IsUtf8-are_ascii}
 use Rattle.serde_json.specs.Data.{Data, null, boolean, number, string, array, object, Items, no_items, item, Members, no_members, member, put, depth, items_depth, members_depth}
 use Rattle.serde_json.specs.Find.{of_integer}
-use Rattle.serde_json.specs.Read.{read, max_depth, number_of, of_json, of_items, of_members}
+use Rattle.serde_json.specs.Read.{max_depth, number_of, of_json, of_items, of_members}
 use Rattle.serde_json.specs.Written.{number_text, outline, items_outline, members_outline, comma_if, compact_text, items_text, members_text}
 use Rattle.serde_json.proofs.Numbers.{number_of-decimal, number_of-negative}
 use Rattle.serde_json.proofs.Texts.{print-outline}
 use Rattle.mx_json.specs.Keys.{keys_of, are_ordered}
 use Rattle.mx_json.specs.Laws.{IsInRange, is_formed, items_are_formed, members_are_formed, data_keys}
-use Rattle.mx_json.specs.Numbers.{is_large, largest, has_large, any_in_items, any_in_members}
+use Rattle.mx_json.specs.Numbers.{is_large, has_large, any_in_items, any_in_members}
 use Rattle.mx_json.specs.Reading.{read_json}
 use Rattle.mx_json.specs.Texts.{json_text}
 use Rattle.mx_json.specs.Values.{data_of, items_data, members_data}
 use Rattle.mx_json.specs.declared.members.Member.{Member}
-use Rattle.mx_json.specs.declared.value.Json as json
 use Rattle.mx_json.specs.declared.value.Json.{Json}
 use Rattle.mx_json.proofs.Data.{data-Null, data-Bool, data-Int, data-Text, data-List, data-Object}
 use Rattle.mx_json.proofs.Induction.{by_cases}
 use Rattle.mx_json.proofs.Order.{ordered_front, put_above}
 use Rattle.mx_json.proofs.Reading.{reads_as}
+use Rattle.mx_json.proofs.Texts.{integer_text}
 
 -- the text of the data is UTF-8, and its tokens read as the data
 record Comes (d : Data) : Type 0 where
@@ -55,10 +54,6 @@ comma_utf8 false = IsUtf8-nil
 small : (z : ℤ) → is_large (of_integer z) ≡ false → mag z < 2 ^ 63
 small (pos n) h = grind (arith, nat_tests)
 small (negsuc n) h = grind (arith, nat_tests)
-
-integer_text : (z : ℤ) → number_text (of_integer z) ≡ signed_decimal z
-integer_text (pos n) = refl
-integer_text (negsuc n) = refl
 
 integer_reads : (z : ℤ) → mag z < 2 ^ 63 → number_of (number_text (of_integer z)) ≡ Some (of_integer z)
 integer_reads (pos n) h = number_of-decimal n (omega arith)
@@ -117,13 +112,13 @@ members_come (m ∷ ms) all h formed =
     record {
       numbers = (first.numbers, rest.numbers);
       same = λ front order.
-        ap (option_and_then (λ d. of_members (members_outline (members_data ms)) (put m.key d (members_data front)))) first.same
-        ∙ ap (of_members (members_outline (members_data ms))) (next_member front m ms order)
-        ∙ rest.same (front ++ m ∷ []) (ap (λ l. are_ordered (keys_of l)) (append_assoc front (m ∷ []) ms) ∙ order)
-        ∙ ap (λ l. Some (members_data l)) (append_assoc front (m ∷ []) ms);
+          ap (option_and_then (λ d. of_members (members_outline (members_data ms)) (put m.key d (members_data front)))) first.same
+          ∙ ap (of_members (members_outline (members_data ms))) (next_member front m ms order)
+          ∙ rest.same (front ++ m ∷ []) (ap (λ l. are_ordered (keys_of l)) (append_assoc front (m ∷ []) ms) ∙ order)
+          ∙ ap (λ l. Some (members_data l)) (append_assoc front (m ∷ []) ms);
       utf8 = λ later. IsUtf8-append _ _ (comma_utf8 later)
-        (IsUtf8-append _ _ (IsUtf8-quoted m.key (IsUtf8-from_is_utf8 m.key parts.0))
-        (IsUtf8-append (58 ∷ []) _ (IsUtf8-are_ascii (58 ∷ []) refl) (IsUtf8-append _ _ first.utf8 (rest.utf8 true))));
+          (IsUtf8-append _ _ (IsUtf8-quoted m.key (IsUtf8-from_is_utf8 m.key parts.0))
+          (IsUtf8-append (58 ∷ []) _ (IsUtf8-are_ascii (58 ∷ []) refl) (IsUtf8-append _ _ first.utf8 (rest.utf8 true))));
     }
 
 list_comes : (js : List Json) → AllByRecursion Returns js → has_large (array (items_data js)) ≡ false → is_formed (array (items_data js)) ≡ true → Comes (array (items_data js))

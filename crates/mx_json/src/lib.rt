@@ -8,11 +8,10 @@ mod members;
 mod numbers;
 mod reader;
 mod size;
-mod value;
-mod writer;
-
 #[cfg(test)]
 mod tests;
+mod value;
+mod writer;
 
 pub use fault::JsonFault;
 pub use laws::{data_is_whole, text_reads_back};

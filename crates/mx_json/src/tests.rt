@@ -47,7 +47,10 @@ fn a_value_is_written_compact(rt: HostRuntime) -> Result<(), Fail> {
         (" [ null , true,false , 0, -1 ] ", "[null,true,false,0,-1]"),
         ("[]", "[]"),
         ("{}", "{}"),
-        (r#"{"b":1,"":[],"a":{"z":2,"é":3}}"#, r#"{"":[],"a":{"z":2,"é":3},"b":1}"#),
+        (
+            r#"{"b":1,"":[],"a":{"z":2,"é":3}}"#,
+            r#"{"":[],"a":{"z":2,"é":3},"b":1}"#,
+        ),
         (r#"{"a":1.5,"a":2}"#, r#"{"a":2}"#),
         (r#""\u0022\\\/\n\t\u0001\u00e9é""#, r#""\"\\/\n\t\u0001éé""#),
     ] {
@@ -73,7 +76,10 @@ fn each_refusal_has_its_cause(rt: HostRuntime) {
         (b"-0".as_slice(), JsonFault::Fraction),
         (b"18446744073709551616".as_slice(), JsonFault::Fraction),
         (b"18446744073709551615".as_slice(), JsonFault::IntegerRange),
-        (b"{\"a\":9007199254740992}".as_slice(), JsonFault::IntegerRange),
+        (
+            b"{\"a\":9007199254740992}".as_slice(),
+            JsonFault::IntegerRange,
+        ),
         (b"-9007199254740992".as_slice(), JsonFault::IntegerRange),
     ] {
         assert!(rt; read(rt.alloc(), bytes).err() == Some(fault));
