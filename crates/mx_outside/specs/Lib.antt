@@ -1,0 +1,4 @@
+pub mod Causes
+pub mod Moves
+pub mod Calls
+pub mod Named

@@ -1,0 +1,32 @@
+//! The outside of the program, as values that a contract can speak of: a [`Source`] of bytes, a
+//! [`Sink`] of bytes and the [`Files`] that are read by name. Each counts its faults, and answers
+//! that it failed only in a call in which that count rose.
+//!
+//! Each has a form in memory ([`MemSource`], [`MemSink`], [`MemFiles`]), whose calls fail where the
+//! caller lists them, and an adapter to the system ([`StdIn`], [`StdOut`], [`StdErr`],
+//! [`HostFiles`]), of which no contract can say what the system gives or takes.
+#![tactic(auto)]
+
+mod calls;
+mod file_set;
+mod host_files;
+mod mem_file;
+mod mem_files;
+mod mem_sink;
+mod mem_source;
+mod sink;
+mod source;
+mod streams;
+
+pub use file_set::{FileFault, Files};
+pub use host_files::HostFiles;
+pub use mem_file::MemFile;
+pub use mem_files::MemFiles;
+pub use mem_sink::MemSink;
+pub use mem_source::MemSource;
+pub use sink::{Put, Sink};
+pub use source::{Source, Took};
+pub use streams::{Reading, StdErr, StdIn, StdOut, Writing};
+
+#[cfg(test)]
+mod tests;
