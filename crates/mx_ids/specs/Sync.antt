@@ -1,0 +1,41 @@
+-- The text of a sync token, and which tokens are in range and in order.
+use Rattle.std.specs.Prelude.{◌≡◌, ℕ, ◌^◌, ◌<◌, ◌≤◌, Bool, ◌&&◌, nat_lt, ◌==◌, length, if◌then◌else◌, List, [], ◌∷◌, ◌++◌, Option, Some, None, Result, Ok, Err, option_and_then}
+use Rattle.mx_ids.specs.Decimal.{numeral}
+use Rattle.mx_ids.specs.Mark.{marked_at}
+use Rattle.mx_ids.specs.declared.sync_token.SyncToken.{SyncToken}
+use Rattle.mx_ids.specs.declared.sync_token.TokenFault.{TokenFault}
+use Rattle.mx_ids.specs.declared.sync_token.TokenFault.TheVariants.{Shape, TooLarge, Order}
+
+-- the one text of a sync token, whatever its numbers
+unfoldable pub sync_text : SyncToken → List ℕ
+sync_text t = 115 ∷ (numeral t.e ++ 95 ∷ (numeral t.r ++ 95 ∷ (numeral t.a ++ 95 ∷ (numeral t.d ++ 95 ∷ numeral t.b))))
+
+-- each number is below 2^48
+abbrev pub IsInRange : SyncToken → Type 0
+IsInRange t = (t.e < 2 ^ 48) × (t.r < 2 ^ 48) × (t.a < 2 ^ 48) × (t.d < 2 ^ 48) × (t.b < 2 ^ 48)
+
+-- What the reader finds, on lists.
+
+abbrev pub is_in_range : SyncToken → Bool
+is_in_range t = nat_lt t.e (2 ^ 48) && nat_lt t.r (2 ^ 48) && nat_lt t.a (2 ^ 48) && nat_lt t.d (2 ^ 48) && nat_lt t.b (2 ^ 48)
+
+-- the last number, with nothing behind it
+abbrev pub ended : ℕ → ℕ → ℕ → ℕ → ℕ × List ℕ → Option SyncToken
+ended e r a d p = if length p.1 == 0 then Some (record { e = e; r = r; a = a; d = d; b = p.0 }) else None
+
+-- the token that a text spells, with each number at most `most`
+unfoldable pub sync_token_at : ℕ → List ℕ → Option SyncToken
+sync_token_at most text =
+    option_and_then
+    (λ (p : ℕ × List ℕ).
+    option_and_then
+    (λ (q : ℕ × List ℕ).
+    option_and_then
+    (λ (u : ℕ × List ℕ). option_and_then (λ (v : ℕ × List ℕ). option_and_then (ended p.0 q.0 u.0 v.0) (marked_at most 95 v.1)) (marked_at most 95 u.1))
+    (marked_at most 95 q.1))
+    (marked_at most 95 p.1))
+    (marked_at most 115 text)
+
+unfoldable pub judged : Option SyncToken → Result SyncToken TokenFault
+judged None = Err Shape
+judged (Some t) = if is_in_range t then (if nat_lt t.e t.b then Err Order else Ok t) else Err TooLarge
