@@ -1,0 +1,16 @@
+-- The stored account data, in the order in which it was put: the entry at position p is the p-th, from 1.
+use Rattle.std.specs.Prelude.{ℕ, List, [], ◌∷◌, Bool, Option, Some, None, fold, filter, option_map, if◌then◌else◌}
+use Rattle.std.specs.Str.{bytes_eq}
+use Rattle.std.specs.Ordering.{nat_cmp}
+use Rattle.std.specs.Cmp.Lexicographic.{slice_cmp}
+use Rattle.std.specs.BTreeMap.{insert_entry}
+use Rattle.mx_json.specs.declared.value.Json.{Json}
+use Rattle.mxsync.specs.declared.entry.Entry.{Entry}
+
+-- the data with one type set
+abbrev pub set_entry : List (List ℕ × Json) → Entry → List (List ℕ × Json)
+set_entry known e = insert_entry (slice_cmp nat_cmp) known e.kind e.content
+
+-- a user's data in these entries: for each type the last content, in byte order of types
+abbrev pub data_of : List ℕ → List Entry → List (List ℕ × Json)
+data_of user entries = fold set_entry [] (filter (λ e. bytes_eq e.user user) entries)
