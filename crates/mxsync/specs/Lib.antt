@@ -9,4 +9,5 @@ pub mod Bodies
 pub mod Exchanges
 pub mod Chains
 pub mod Sessions
+pub mod Steps
 pub mod Runs

@@ -6,5 +6,9 @@ mod asked;
 mod connection;
 mod entry;
 mod refusal;
+mod run;
+mod stand_in;
+mod users_file;
+mod words;
 
 fn main(_rt: HostRuntime) {}
