@@ -1,10 +1,21 @@
 //! The sync engine of a Matrix homeserver for local users.
 #![tactic(auto)]
 
+mod account;
+mod answer;
 mod answered;
 mod asked;
+mod body;
+mod chains;
 mod connection;
 mod entry;
+mod query;
 mod refusal;
+mod respond;
+mod sync_query;
+#[cfg(test)]
+mod tests;
+mod texts;
+mod words;
 
 fn main(_rt: HostRuntime) {}
