@@ -46,7 +46,10 @@ fn answer_caller(alloc: Global, caller: &UserId, entries: &[Entry], call: &Call,
 fn device_of(users: &Users, call: &Call) -> Option<usize>
     ensures { result ≡ device_of users.now call.now }
 {
-    device_with(users.devices.as_slice(), call.bearer.as_ref()?)
+    match &call.bearer {
+        Some(token) => device_with(users.devices.as_slice(), token),
+        None => None,
+    }
 }
 
 /// The number of the device that has the token.
