@@ -21,6 +21,10 @@ refusal_json r = json.Object (member (codes "errcode") (json.Text (code_of r)) �
 abbrev pub event_json : List ℕ × Json → Json
 event_json p = json.Object (member (codes "content") p.1 ∷ member (codes "type") (json.Text p.0) ∷ [])
 
+-- account data, as the object of their events
+abbrev pub account_json : List (List ℕ × Json) → Json
+account_json account = json.Object (member (codes "events") (json.List (map event_json account)) ∷ [])
+
 -- no room yet
 abbrev pub rooms_json : Json
 rooms_json = json.Object (member (codes "invite") (json.Object []) ∷ member (codes "join") (json.Object []) ∷ member (codes "leave") (json.Object []) ∷ [])
@@ -28,7 +32,7 @@ rooms_json = json.Object (member (codes "invite") (json.Object []) ∷ member (c
 -- the reply to a sync (Client-Server API, Syncing)
 abbrev pub reply_json : Reply → Json
 reply_json r = json.Object (
-    member (codes "account_data") (json.Object (member (codes "events") (json.List (map event_json r.account)) ∷ []))
+    member (codes "account_data") (account_json r.account)
     ∷ member (codes "next_batch") (json.Text (sync_text r.next))
     ∷ member (codes "rooms") rooms_json
     ∷ [])

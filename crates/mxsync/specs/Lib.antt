@@ -3,6 +3,7 @@ pub mod UsersFile
 pub mod Refusals
 pub mod Routes
 pub mod Queries
+pub mod Parameters
 pub mod Accounts
 pub mod Answers
 pub mod Bodies

@@ -46,4 +46,4 @@ text_of refusal.Fraction = codes "bad JSON: fraction"
 text_of refusal.IntegerRange = codes "bad JSON: integer out of range"
 text_of refusal.NoObject = codes "bad JSON: body"
 text_of refusal.OwnType = codes "bad JSON: type"
-text_of (refusal.TokenAhead asked front) = codes "token ahead: " ++ decimal asked ++ codes " > " ++ decimal front
+text_of (refusal.TokenAhead asked front) = codes "token ahead: " ++ (decimal asked ++ (codes " > " ++ decimal front))

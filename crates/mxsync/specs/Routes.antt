@@ -1,5 +1,5 @@
 -- The two paths that are served, and what a call asks on them.
-use Rattle.std.specs.Prelude.{ℕ, ◌&&◌, ◌||◌, ◌==◌, List, [], ◌∷◌, Bool, not, Option, Some, None, option_map, length, drop, nat_lt, nat_eq, if◌then◌else◌, codes}
+use Rattle.std.specs.Prelude.{ℕ, ◌&&◌, ◌||◌, ◌==◌, List, [], ◌∷◌, Bool, not, Option, Some, None, option_map, option_and_then, length, drop, nat_lt, nat_eq, if◌then◌else◌, codes}
 use Rattle.std.specs.List.{list_any, starts_with, before_first, after_first}
 use Rattle.std.specs.Str.{bytes_eq}
 use Rattle.mx_http.specs.declared.call.Call.{Call}
@@ -25,17 +25,19 @@ data_prefix = codes "account_data/"
 abbrev pub is_part : List ℕ → Bool
 is_part part = nat_lt 0 (length part) && not (list_any (λ b. b == 47 || b == 37) part)
 
+-- what follows a prefix
+unfoldable pub behind : List ℕ → List ℕ → Option (List ℕ)
+behind prefix text = if starts_with nat_eq text prefix then Some (drop (length prefix) text) else None
+
 -- the user and the type in what follows the prefix
 abbrev pub data_behind : List ℕ → Option (List ℕ × List ℕ)
 data_behind bytes =
     let user = before_first (λ b. b == 47) bytes in
-    let tail = after_first (λ b. b == 47) bytes in
-    let kind = drop (length data_prefix) tail in
-    if is_part user && starts_with nat_eq tail data_prefix && is_part kind then Some (user, kind) else None
+    option_and_then (λ kind. if is_part user && is_part kind then Some (user, kind) else None) (behind data_prefix (after_first (λ b. b == 47) bytes))
 
 -- the user and the type of a path of account data, `/_matrix/client/v3/user/{userId}/account_data/{type}`
 abbrev pub data_path : List ℕ → Option (List ℕ × List ℕ)
-data_path path = if starts_with nat_eq path user_prefix then data_behind (drop (length user_prefix) path) else None
+data_path path = option_and_then data_behind (behind user_prefix path)
 
 -- what a call asks, by its method and path
 unfoldable pub asked_of : Call → Option Asked
