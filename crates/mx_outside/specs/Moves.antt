@@ -1,5 +1,5 @@
 -- What a call of a source, a sink or a set of files does to the bytes, where the object tells them.
-use Rattle.std.specs.Prelude.{◌≡◌, ℕ, ◌<◌, ◌≤◌, List, ◌++◌, length, take, IfSome}
+use Rattle.std.specs.Prelude.{◌≡◌, ℕ, ◌<◌, ◌≤◌, List, length, take, IfSome}
 use Rattle.std.specs.declared.option.Option.{Option}
 use Rattle.std.specs.Io.KnownBytes.{Consumes, Appends, Keeps, IsAtEnd}
 use Rattle.mx_outside.specs.declared.source.Took.{Took}
@@ -17,7 +17,7 @@ FitsRoom took.Failed room = Unit {0}
 -- where none was left, and a failed take loses none
 abbrev pub Moves : Option (List ℕ) → Option (List ℕ) → Took → List ℕ → Type 0
 Moves old new (took.Got n) into = Consumes old new (take n into)
-Moves old new took.End into = IsAtEnd old × Keeps old new
+Moves old new took.End into = IsAtEnd new × Keeps old new
 Moves old new took.Failed into = Keeps old new
 
 -- all of the bytes were added, or the first n of them where the put failed

@@ -1,6 +1,6 @@
 //! The calls of an object in memory that fail.
 ghost use Rattle.std.specs.Prelude.{◌≡◌, ◌≤◌};
-ghost use Rattle.mx_outside.specs.Calls.{Plan, fresh, is_failing, counted};
+ghost use Rattle.mx_outside.specs.Calls.{FaultPlan, fresh, is_failing, counted};
 
 use std::marker::Model;
 
@@ -13,7 +13,7 @@ pub struct Calls {
 }
 
 impl Model for Calls {
-    ghost Value = { Plan };
+    ghost Value = { FaultPlan };
 
     ghost view = { λ c. record { failing = c.failing.items; next = c.next; faults = c.faults } };
 }

@@ -33,7 +33,7 @@ pub trait Files {
     /// The bytes of the file with a name, where they are told.
     ghost told: { Self → List ℕ → Option (List ℕ) };
 
-    /// The faults so far. The count never falls, and stays at 2^64 - 1 once it is there.
+    /// The faults so far, a count that never falls. It may stop at 2^64 - 1.
     ghost faults: { Self → ℕ };
 
     /// Reads the whole file `name`, of at most `most` bytes. `TooLong` comes exactly where the file

@@ -21,9 +21,9 @@ pub struct MemFiles {
 }
 
 impl Model for MemFiles {
-    ghost use Rattle.mx_outside.specs.Named.{Shelf};
+    ghost use Rattle.mx_outside.specs.Named.{FilesState};
 
-    ghost Value = { Shelf };
+    ghost Value = { FilesState };
 
     ghost view = { λ s. record { files = s.files.items; plan = s.calls } };
 }

@@ -2,7 +2,7 @@
 ghost use Rattle.std.specs.Prelude.{◌≡◌, ◌≤◌, [], true, Some};
 ghost use Rattle.mx_outside.specs.Causes.{Rose};
 ghost use Rattle.mx_outside.specs.Moves.{Adds};
-ghost use Rattle.mx_outside.specs.Calls.{Kept, called, fresh, has_failed, is_failing};
+ghost use Rattle.mx_outside.specs.Calls.{SinkState, called, fresh, has_failed, is_failing};
 
 use crate::calls::Calls;
 use crate::sink::{Put, Sink};
@@ -17,7 +17,7 @@ pub struct MemSink {
 }
 
 impl Model for MemSink {
-    ghost Value = { Kept };
+    ghost Value = { SinkState };
 
     ghost view = { λ s. record { written = s.bytes.items; plan = s.calls } };
 }

@@ -2,7 +2,7 @@
 ghost use Rattle.std.specs.Prelude.{◌≡◌, ◌<◌, ◌≤◌, drop, take, length, vec_len, Some};
 ghost use Rattle.mx_outside.specs.Causes.{Rose};
 ghost use Rattle.mx_outside.specs.Moves.{FitsRoom, Moves};
-ghost use Rattle.mx_outside.specs.Calls.{Feed, called, fresh, is_failing, taken};
+ghost use Rattle.mx_outside.specs.Calls.{SourceState, called, fresh, is_failing, taken};
 
 use crate::calls::Calls;
 use crate::source::{Source, Took};
@@ -18,7 +18,7 @@ pub struct MemSource {
 }
 
 impl Model for MemSource {
-    ghost Value = { Feed };
+    ghost Value = { SourceState };
 
     ghost view = { λ s. record { left = drop s.at s.bytes.items; piece = s.piece; plan = s.calls } };
 

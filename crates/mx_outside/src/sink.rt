@@ -18,7 +18,7 @@ pub trait Sink {
     /// The bytes that were written, where the sink tells them.
     ghost written: { Self → Option (List ℕ) };
 
-    /// The faults so far. The count never falls, and stays at 2^64 - 1 once it is there.
+    /// The faults so far, a count that never falls. It may stop at 2^64 - 1.
     ghost faults: { Self → ℕ };
 
     /// Adds all of `bytes`. `Failed` comes only where the count of faults rose in this call, or

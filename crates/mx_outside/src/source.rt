@@ -20,7 +20,7 @@ pub trait Source {
     /// The bytes that are left, where the source tells them.
     ghost left: { Self → Option (List ℕ) };
 
-    /// The faults so far. The count never falls, and stays at 2^64 - 1 once it is there.
+    /// The faults so far, a count that never falls. It may stop at 2^64 - 1.
     ghost faults: { Self → ℕ };
 
     /// Moves bytes to the front of `into`, which must have room for one: at least one and at most
