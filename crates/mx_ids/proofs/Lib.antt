@@ -1,3 +1,5 @@
+pub mod Form
+pub mod Names
 pub mod Numerals
 pub mod Read
 pub mod Sync

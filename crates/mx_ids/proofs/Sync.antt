@@ -1,12 +1,12 @@
 -- Reading a sync token: what is read is spelled so, what is spelled so is read, and what is said of it.
-use Rattle.std.proofs.Common.{◌≡◌, ◌≢◌, ℕ, ◌+◌, ◌-◌, ◌^◌, ◌<◌, ◌≤◌, min, Bool, true, false, cond, ◌&&◌, ltb, eqb, length, List, [], ◌∷◌, ◌++◌, Option, Some, None, Result, Ok, Err, decimal, refl, sym, ap, subst, ◌∙◌, arith, append-nil, inl, inr, ◌⊎◌, IfOk, IsErrOf, ◌↔◌}
+use Rattle.std.proofs.Common.{◌≡◌, ◌≢◌, ℕ, ◌+◌, ◌-◌, ◌^◌, ◌<◌, ◌≤◌, min, true, cond, ltb, eqb, length, List, [], ◌∷◌, ◌++◌, Option, Some, None, Result, Ok, Err, decimal, refl, sym, ap, subst, ◌∙◌, arith, append-nil, inl, inr, ◌⊎◌, IfOk, IsErrOf, ◌↔◌}
 use Rattle.std.proofs.lemmas.Option.{cond_some, same_Some, option_and_then_some}
-use Rattle.std.proofs.lemmas.Bool.{cases_lt, cases_Bool, cond-true, cond-false, and_parts, and_from, eqb-true, ltb-true, ltb-false, lt-ltb, le-ltb, true≢false}
+use Rattle.std.proofs.lemmas.Bool.{cases_lt, cases_Bool, cond-true, cond-false, and_parts, and_from, eqb-true, ltb-true, lt-ltb, le-ltb, true≢false}
 use Rattle.std.specs.Option.{option_and_then}
 use mathlib.Core.Logic.{⊎_elim}
 use Rattle.mx_ids.specs.Decimal.{numeral}
 use Rattle.mx_ids.specs.Mark.{marked_at}
-use Rattle.mx_ids.specs.Sync.{sync_text, IsInRange, is_in_range, ended, sync_token_at, judged}
+use Rattle.mx_ids.specs.Sync.{sync_text, IsInRange, IsSyncToken, is_in_range, ended, sync_token_at, judged}
 use Rattle.mx_ids.specs.declared.sync_token.SyncToken.{SyncToken}
 use Rattle.mx_ids.specs.declared.sync_token.TokenFault.{TokenFault}
 use Rattle.mx_ids.specs.declared.sync_token.TokenFault.TheVariants.{Shape, TooLarge, Order}
@@ -164,20 +164,20 @@ by_case text r o shape large order ok = ⊎_elim
     some.2)
     o
 
-pub found_by : (text : List ℕ) (r : Result SyncToken TokenFault) → Outcome text r → IfOk r (λ t. (text ≡ sync_text t) × IsInRange t × (t.b ≤ t.e))
+pub found_by : (text : List ℕ) (r : Result SyncToken TokenFault) → Outcome text r → IfOk r (λ t. (text ≡ sync_text t) × IsSyncToken t)
 found_by text r o =
-    let P : Result SyncToken TokenFault → Type 0 = λ q. IfOk q (λ t. (text ≡ sync_text t) × IsInRange t × (t.b ≤ t.e)) in
+    let P : Result SyncToken TokenFault → Type 0 = λ q. IfOk q (λ t. (text ≡ sync_text t) × IsSyncToken t) in
     by_case text r o
     (λ none is. subst P (sym is) tt)
     (λ t at out is. subst P (sym is) tt)
     (λ t at range below is. subst P (sym is) tt)
-    (λ t at range above is. subst P (sym is) (at, range, above))
+    (λ t at range above is. subst P (sym is) (at, (range, above)))
 
-pub back_by : (text : List ℕ) (r : Result SyncToken TokenFault) → Outcome text r → (t : SyncToken) → text ≡ sync_text t → IsInRange t → t.b ≤ t.e → r ≡ Ok t
-back_by text r o t at range above = by_case text r o
+pub back_by : (text : List ℕ) (r : Result SyncToken TokenFault) → Outcome text r → (t : SyncToken) → text ≡ sync_text t → IsSyncToken t → r ≡ Ok t
+back_by text r o t at is_token = by_case text r o
     (λ none is. absurd (none t at))
-    (λ u u_at out is. absurd (out (subst IsInRange (same_token t u (sym at ∙ u_at)) range)))
-    (λ u u_at u_range below is. let same = same_token t u (sym at ∙ u_at) in absurd (omega (arith, above, below, ap (λ (w : SyncToken). w.e) same, ap (λ (w : SyncToken). w.b) same)))
+    (λ u u_at out is. absurd (out (subst IsInRange (same_token t u (sym at ∙ u_at)) is_token.0)))
+    (λ u u_at u_range below is. let same = same_token t u (sym at ∙ u_at) in absurd (omega (arith, is_token.1, below, ap (λ (w : SyncToken). w.e) same, ap (λ (w : SyncToken). w.b) same)))
     (λ u u_at u_range u_above is. is ∙ ap Ok (sym (same_token t u (sym at ∙ u_at))))
 
 pub shape_by : (text : List ℕ) (r : Result SyncToken TokenFault) → Outcome text r → IsErrOf r Shape ↔ ((t : SyncToken) → text ≢ sync_text t)

@@ -1,5 +1,5 @@
 -- The text of a sync token, and which tokens are in range and in order.
-use Rattle.std.specs.Prelude.{◌≡◌, ℕ, ◌^◌, ◌<◌, ◌≤◌, Bool, ◌&&◌, nat_lt, ◌==◌, length, if◌then◌else◌, List, [], ◌∷◌, ◌++◌, Option, Some, None, Result, Ok, Err, option_and_then}
+use Rattle.std.specs.Prelude.{ℕ, ◌^◌, ◌<◌, ◌≤◌, Bool, ◌&&◌, nat_lt, ◌==◌, length, if◌then◌else◌, List, ◌∷◌, ◌++◌, Option, Some, None, Result, Ok, Err, option_and_then}
 use Rattle.mx_ids.specs.Decimal.{numeral}
 use Rattle.mx_ids.specs.Mark.{marked_at}
 use Rattle.mx_ids.specs.declared.sync_token.SyncToken.{SyncToken}
@@ -13,6 +13,10 @@ sync_text t = 115 ∷ (numeral t.e ++ 95 ∷ (numeral t.r ++ 95 ∷ (numeral t.a
 -- each number is below 2^48
 abbrev pub IsInRange : SyncToken → Type 0
 IsInRange t = (t.e < 2 ^ 48) × (t.r < 2 ^ 48) × (t.a < 2 ^ 48) × (t.d < 2 ^ 48) × (t.b < 2 ^ 48)
+
+-- a token that stands for what a client has seen: in range, and its chain began at or before its event front
+abbrev pub IsSyncToken : SyncToken → Type 0
+IsSyncToken t = IsInRange t × (t.b ≤ t.e)
 
 -- What the reader finds, on lists.
 

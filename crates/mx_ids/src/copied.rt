@@ -2,12 +2,13 @@ ghost use Rattle.std.specs.Prelude.{◌≡◌, IfOk};
 
 use crate::memory::Memory;
 use crate::seq::Seq;
+use crate::sync_token::SyncToken;
 use crate::text::Text;
 use std::alloc::Global;
 
-/// A value of which an equal one can be made.
+/// A value of which an equal one can be made. What a stream or a reply holds is of such a type.
 pub trait Copied: Sized + Drop {
-    /// An equal value. `Memory` where the allocator refuses what a text or list in it needs.
+    /// An equal value. `Memory` where an allocation that its texts and lists need is refused.
     fn copy(&self, alloc: Global) -> Result<Self, Memory>
         ensures { IfOk result (λ c. c ≡ self.now) };
 }
@@ -50,6 +51,12 @@ impl Copied for u64 {
 
 impl Copied for i64 {
     fn copy(&self, _alloc: Global) -> Result<i64, Memory> {
+        Ok(*self)
+    }
+}
+
+impl Copied for SyncToken {
+    fn copy(&self, _alloc: Global) -> Result<SyncToken, Memory> {
         Ok(*self)
     }
 }

@@ -47,12 +47,14 @@ impl<T> Seq<T> {
         items
     }
 
+    /// The number of items.
     pub fn len(&self) -> usize
         ensures { result ≡ length self.now }
     {
         self.items.len()
     }
 
+    /// Whether there is no item.
     pub fn is_empty(&self) -> bool
         ensures { result ≡ (length self.now == 0) }
     {
@@ -67,6 +69,7 @@ impl<T> Seq<T> {
         self.items.get(at)
     }
 
+    /// The items, borrowed.
     pub fn as_slice(&self) -> &[T]
         ensures { result.now ≡ self.now }
     {

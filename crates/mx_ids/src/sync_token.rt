@@ -1,5 +1,5 @@
 ghost use Rattle.std.specs.Prelude.{◌≡◌, ◌≢◌, ◌↔◌, ◌<◌, ◌≤◌, ◌++◌, ◌^◌, ◌-◌, IfOk, Ok, IsErrOf, OnOk, OnErr, string_bytes, decimal, ◌∷◌};
-ghost use Rattle.mx_ids.specs.Sync.{sync_text, sync_token_at, judged, is_in_range, IsInRange};
+ghost use Rattle.mx_ids.specs.Sync.{sync_text, sync_token_at, judged, is_in_range, IsInRange, IsSyncToken};
 ghost use Rattle.mx_ids.specs.declared.sync_token.SyncToken.{SyncToken};
 
 use crate::memory::Memory;
@@ -46,8 +46,8 @@ pub enum TokenFault {
 /// `Shape` exactly where the text isn't of this form, `TooLarge` exactly where it is and a number
 /// is 2^48 or more, and `Order` exactly where the numbers are in range and `b > e`.
 pub fn read_sync_token(text: &str) -> Result<SyncToken, TokenFault>
-    ensures found { IfOk result (λ t. (text.now ≡ sync_text t) × IsInRange t × (t.b ≤ t.e)) }
-    ensures back { (t : SyncToken) → text.now ≡ sync_text t → IsInRange t → t.b ≤ t.e → result ≡ Ok t }
+    ensures found { IfOk result (λ t. (text.now ≡ sync_text t) × IsSyncToken t) }
+    ensures back { (t : SyncToken) → text.now ≡ sync_text t → IsSyncToken t → result ≡ Ok t }
     ensures shape { IsErrOf result TokenFault.Shape ↔ ((t : SyncToken) → text.now ≢ sync_text t) }
     ensures too_large { IsErrOf result TokenFault.TooLarge ↔ ((t : SyncToken) × (text.now ≡ sync_text t) × ¬ IsInRange t) }
     ensures order { IsErrOf result TokenFault.Order ↔ ((t : SyncToken) × (text.now ≡ sync_text t) × IsInRange t × (t.e < t.b)) }
@@ -55,12 +55,12 @@ pub fn read_sync_token(text: &str) -> Result<SyncToken, TokenFault>
     judge(text.as_bytes())
 }
 
-/// No two tokens have one text.
+/// A law, with nothing to run: no two sync tokens have one text.
 pub fn sync_text_is_injective()
     ensures { (t u : SyncToken) → sync_text t ≡ sync_text u → t ≡ u }
 {}
 
-/// Appends the text of a token. `Memory` leaves `out` as it was.
+/// Appends the text of a token, `s{e}_{r}_{a}_{d}_{b}`. `Memory` leaves `out` as it was.
 pub fn write_sync_token(alloc: Global, token: &SyncToken, out: &mut Text) -> Result<(), Memory>
     ensures ok { OnOk result (out.new ≡ out.old ++ sync_text token.now) }
     ensures same { OnErr result (out.new ≡ out.old) }

@@ -12,7 +12,8 @@ use std::cmp::Ordering;
 use std::hash::{Hash, Hasher};
 use std::marker::Model;
 
-/// A text of UTF-8, which contracts see as the list of its bytes.
+/// A text in UTF-8, which contracts see as the list of its bytes. Equal, ordered and hashed by
+/// these bytes.
 #[derive(Debug, Drop)]
 pub struct Text {
     text: String,
@@ -61,6 +62,7 @@ impl Text {
         self.text.len()
     }
 
+    /// The text, borrowed.
     pub fn as_str(&self) -> &str
         ensures { result.now ≡ self.now }
     {

@@ -1,6 +1,4 @@
-use Rattle.std.proofs.Common.{◌∙◌}
-use Rattle.mx_ids.specs.Sync.{judged, sync_token_at}
-use Rattle.mx_ids.proofs.Sync.{Outcome, outcome, found_by, back_by, shape_by, too_large_by, order_by}
+use Rattle.mx_ids.proofs.Sync.{outcome, found_by, back_by, shape_by, too_large_by, order_by}
 use Rattle.mx_ids.proofs.sync_token.read_sync_token.Goals as goal
 
 pub returns-clause-found : goal.returns-clause-found
