@@ -1,0 +1,8 @@
+pub mod Order
+pub mod Fractions
+pub mod Reading
+pub mod Induction
+pub mod Data
+pub mod Texts
+pub mod Sizes
+pub mod Whole

@@ -1,0 +1,7 @@
+pub mod formers
+pub mod Keys
+pub mod Values
+pub mod Numbers
+pub mod Reading
+pub mod Texts
+pub mod Laws

@@ -1,0 +1,18 @@
+//! JSON values: read from text, written as compact text, and copied.
+#![tactic(auto)]
+
+mod copied;
+mod fault;
+mod laws;
+mod members;
+mod numbers;
+mod reader;
+mod size;
+mod value;
+mod writer;
+
+pub use fault::JsonFault;
+pub use laws::data_is_whole;
+pub use members::{Member, Members};
+pub use reader::read;
+pub use value::Json;

@@ -1,0 +1,100 @@
+ghost use Rattle.std.specs.Prelude.{◌≡◌, [], ◌∷◌, ◌++◌, ◌==◌, length, true, OnOk, OnErr, option_map};
+ghost use Rattle.mx_json.specs.Keys.{keys_of, are_ordered, value_at};
+
+use mx_ids::{Memory, Seq, Text};
+use std::alloc::Global;
+use std::marker::Model;
+
+/// A key of an object with its value.
+#[derive(Debug, Drop)]
+pub struct Member<V> {
+    pub key: Text,
+    pub value: V,
+}
+
+/// The members of an object: each key once, and the keys in byte order. Contracts see them as the list of members.
+#[derive(Debug, Drop)]
+pub struct Members<V> {
+    entries: Seq<Member<V>>,
+}
+
+impl<V> Model for Members<V> {
+    ghost use Rattle.std.specs.Prelude.{List, ◌≡◌, true};
+    ghost use Rattle.std.specs.Coded.{coded_list};
+    ghost use Rattle.mx_json.specs.declared.members.Member.{Member};
+    ghost use Rattle.mx_json.specs.Keys.{keys_of, are_ordered, member_code};
+
+    ghost Value = { List (Member V) };
+
+    ghost coded = { coded_list (member_code V.code) };
+
+    ghost view = { λ m. m.entries };
+
+    ghost invariant = { λ m. are_ordered (keys_of m.entries) ≡ true };
+}
+
+impl<V> Members<V> {
+    /// No members. Takes no memory.
+    pub fn new(alloc: Global) -> Members<V>
+        ensures { result ≡ [] }
+    {
+        Members {
+            entries: Seq::new(alloc),
+        }
+    }
+
+    /// How many members there are.
+    pub fn len(&self) -> usize
+        ensures { result ≡ length self.now }
+    {
+        self.entries.len()
+    }
+
+    pub fn is_empty(&self) -> bool
+        ensures { result ≡ (length self.now == 0) }
+    {
+        self.entries.is_empty()
+    }
+
+    /// The members, in the byte order of their keys.
+    pub fn as_slice(&self) -> &[Member<V>]
+        ensures value { result.now ≡ self.now }
+        ensures ordered { are_ordered (keys_of self.now) ≡ true }
+    {
+        self.entries.as_slice()
+    }
+
+    /// The value at a key, or `None` where no member has it.
+    pub fn get(&self, key: &str) -> Option<&V>
+        ensures { option_map (λ v. v.now) result ≡ value_at key.now self.now }
+    {
+        for member in self.as_slice() {
+            if member.key.as_str() == key {
+                return Some(&member.value);
+            }
+        }
+        None
+    }
+
+    /// Puts a member at the end, whose key is above all keys there are. `Memory` leaves the members as they were,
+    /// and the key and the value are dropped.
+    pub fn push(&mut self, key: Text, value: V) -> Result<(), Memory>
+    where
+        V: Drop,
+        requires { are_ordered (keys_of self.old ++ key ∷ []) ≡ true }
+        ensures ok { OnOk result (self.new ≡ self.old ++ record { key = key; value = value } ∷ []) }
+        ensures same { OnErr result (self.new ≡ self.old) }
+    {
+        self.entries.push(Member { key, value })
+    }
+
+    /// The members that a list in order holds.
+    pub(crate) fn from_vec(members: Vec<Member<V>>) -> Members<V>
+        requires { are_ordered (keys_of members.items) ≡ true }
+        ensures { result ≡ members.items }
+    {
+        Members {
+            entries: Seq::from_vec(members),
+        }
+    }
+}
