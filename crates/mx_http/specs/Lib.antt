@@ -1,3 +1,5 @@
 pub mod Fields
 pub mod Calls
 pub mod Reads
+pub mod Answers
+pub mod Queries
