@@ -2,7 +2,6 @@
 use Rattle.std.proofs.Common.{◌≡◌, ℕ, ◌+◌, ◌<◌, ◌≤◌, List, [], ◌∷◌, ◌++◌, Bool, true, false, take, drop, length, get_or, refl, ap, sym, ◌∙◌, append_assoc, append-nil, add-one, arith, cond, nat_lt, subst, ◌/◌, ◌%◌}
 use Rattle.std.specs.Char.{digit_char}
 use Rattle.std.proofs.lemmas.Bool.{lt-ltb, le-ltb}
-use Rattle.std.proofs.Math.Seq.{drop-cons}
 use Rattle.std.proofs.lemmas.List.{take-append-drop, drop-drop, drop_all}
 use Rattle.std.proofs.lemmas.Grind.{flat_map-append}
 use Rattle.json.specs.Print.{escape, escape_byte, escape_letter, quoted}
@@ -10,10 +9,7 @@ use Rattle.serde_json.specs.Written.{comma_if}
 use Rattle.mx_json.specs.Texts.{json_text, list_text, object_text}
 use Rattle.mx_json.specs.declared.members.Member.{Member}
 use Rattle.mx_json.specs.declared.value.Json.{Json}
-
--- the next item of a list, after its comma
-pub next_item : {X : Type 0} (xs : List X) (i : ℕ) (x : X) → i < length xs → x ≡ get_or xs i x → drop i xs ≡ x ∷ drop (i + 1) xs
-next_item xs i x below is = drop-cons xs i x below ∙ ap (λ y. y ∷ drop (suc i) xs) (sym is) ∙ ap (λ j. x ∷ drop j xs) (sym (add-one i))
+use Rattle.mx_http.proofs.Pieces.{next_item}
 
 pub items_left : (later : Bool) (js : List Json) (i : ℕ) (j : Json) → i < length js → j ≡ get_or js i j
     → list_text later (drop i js) ≡ comma_if later ++ (json_text j ++ list_text true (drop (i + 1) js))

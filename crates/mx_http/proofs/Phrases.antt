@@ -14,15 +14,18 @@ module _ (n : ℕ) (far : IsStatusCode n → ⊥) where
       far here
 
   -- the choice of another number is left out
-  step : (k : ℕ) {x o : Option (List ℕ)} → (nat_le 100 k && nat_lt k 1000) ≡ true → o ≡ None → (if n == k then x else o) ≡ None
-  step k {x} {o} within none = ap (λ b. cond b x o) (ne_eqb n k (other k within)) ∙ none
+  step : (k : ℕ) (x o : Option (List ℕ)) → (nat_le 100 k && nat_lt k 1000) ≡ true → o ≡ None → (if n == k then x else o) ≡ None
+  step k x o within none = ap (λ b. cond b x o) (ne_eqb n k (other k within)) ∙ none
 
   pub no_phrase : reason_phrase n ≡ None
   no_phrase =
-      step 100 refl (step 101 refl (step 102 refl (step 103 refl (step 200 refl (step 201 refl (step 202 refl (step 203 refl (step 204 refl (step 205 refl (
-      step 206 refl (step 207 refl (step 208 refl (step 226 refl (step 300 refl (step 301 refl (step 302 refl (step 303 refl (step 304 refl (step 305 refl (
-      step 307 refl (step 308 refl (step 400 refl (step 401 refl (step 402 refl (step 403 refl (step 404 refl (step 405 refl (step 406 refl (step 407 refl (
-      step 408 refl (step 409 refl (step 410 refl (step 411 refl (step 412 refl (step 413 refl (step 414 refl (step 415 refl (step 416 refl (step 417 refl (
-      step 418 refl (step 421 refl (step 422 refl (step 423 refl (step 424 refl (step 425 refl (step 426 refl (step 428 refl (step 429 refl (step 431 refl (
-      step 451 refl (step 500 refl (step 501 refl (step 502 refl (step 503 refl (step 504 refl (step 505 refl (step 506 refl (step 507 refl (step 508 refl (
-      step 510 refl (step 511 refl refl)))))))))))))))))))))))))))))))))))))))))))))))))))))))))))))
+      step 100 _ _ refl (step 101 _ _ refl (step 102 _ _ refl (step 103 _ _ refl (step 200 _ _ refl (step 201 _ _ refl (step 202 _ _ refl (
+      step 203 _ _ refl (step 204 _ _ refl (step 205 _ _ refl ( step 206 _ _ refl (step 207 _ _ refl (step 208 _ _ refl (step 226 _ _ refl (
+      step 300 _ _ refl (step 301 _ _ refl (step 302 _ _ refl (step 303 _ _ refl (step 304 _ _ refl (step 305 _ _ refl ( step 307 _ _ refl (
+      step 308 _ _ refl (step 400 _ _ refl (step 401 _ _ refl (step 402 _ _ refl (step 403 _ _ refl (step 404 _ _ refl (step 405 _ _ refl (
+      step 406 _ _ refl (step 407 _ _ refl ( step 408 _ _ refl (step 409 _ _ refl (step 410 _ _ refl (step 411 _ _ refl (step 412 _ _ refl (
+      step 413 _ _ refl (step 414 _ _ refl (step 415 _ _ refl (step 416 _ _ refl (step 417 _ _ refl ( step 418 _ _ refl (step 421 _ _ refl (
+      step 422 _ _ refl (step 423 _ _ refl (step 424 _ _ refl (step 425 _ _ refl (step 426 _ _ refl (step 428 _ _ refl (step 429 _ _ refl (
+      step 431 _ _ refl ( step 451 _ _ refl (step 500 _ _ refl (step 501 _ _ refl (step 502 _ _ refl (step 503 _ _ refl (step 504 _ _ refl (
+      step 505 _ _ refl (step 506 _ _ refl (step 507 _ _ refl (step 508 _ _ refl ( step 510 _ _ refl (
+      step 511 _ _ refl refl)))))))))))))))))))))))))))))))))))))))))))))))))))))))))))))

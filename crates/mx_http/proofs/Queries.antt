@@ -1,14 +1,11 @@
--- Where the query of a target begins, and its pairs one by one.
-use Rattle.std.proofs.Common.{◌≡◌, ℕ, ◌+◌, ◌-◌, ◌<◌, ◌≤◌, List, [], ◌∷◌, ◌++◌, take, drop, length, get_or, ap, sym, ◌∙◌, append_assoc, arith}
-use Rattle.std.specs.Prelude.{map}
+-- Where the query of a target begins.
+use Rattle.std.proofs.Common.{◌≡◌, ℕ, ◌+◌, ◌-◌, ◌<◌, ◌≤◌, List, [], take, drop, length, get_or, ap, sym, ◌∙◌, arith}
 use Rattle.std.specs.List.{position_or_len}
 use Rattle.std.proofs.lemmas.Bool.{ne_eqb, eq-eqb}
 use Rattle.std.proofs.lemmas.List.{take_rest, drop_all}
 use Rattle.std.proofs.lemmas.List.Sums.{position_or_len_is}
 use Rattle.std.proofs.Math.Dec.{eqb}
-use Rattle.std.specs.Str.Lossy.{utf8_lossy}
-use Rattle.form_urlencoded.specs.Form.{decode}
-use Rattle.mx_http.specs.Queries.{query_of, decoded}
+use Rattle.mx_http.specs.Queries.{query_of}
 
 pub query_behind : (xs : List ℕ) (i : ℕ) → i < length xs → ((k : ℕ) → k < i → get_or xs k 0 ≡ 63 → ⊥) → get_or xs i 0 ≡ 63
     → take (length xs - (i + 1)) (drop (i + 1) xs) ≡ query_of xs
@@ -22,9 +19,3 @@ no_query xs i past before =
     let first : position_or_len (λ b. eqb b 63) xs ≡ length xs =
         position_or_len_is (λ b. eqb b 63) xs (length xs) 0 (omega arith) (λ k below. ne_eqb (get_or xs k 0) 63 (before k (omega arith))) (λ same. absurd (omega arith)) in
     sym (ap (λ n. drop (n + 1) xs) first ∙ drop_all (length xs + 1) xs (omega arith))
-
-pub pair_more : (pairs whole : List (List ℕ × List ℕ)) (left after : List (List ℕ × List ℕ)) (name value n v : List ℕ) → pairs ++ map decoded left ≡ whole
-    → left ≡ (name, value) ∷ after → n ≡ utf8_lossy (decode name) → v ≡ utf8_lossy (decode value) → (pairs ++ (n, v) ∷ []) ++ map decoded after ≡ whole
-pair_more pairs whole left after name value n v before cut named valued =
-    let same : (n, v) ≡ decoded (name, value) = (λ i. (named i, valued i)) in
-    append_assoc pairs ((n, v) ∷ []) (map decoded after) ∙ ap (λ p. pairs ++ p ∷ map decoded after) same ∙ ap (λ l. pairs ++ map decoded l) (sym cut) ∙ before

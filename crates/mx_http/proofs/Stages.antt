@@ -72,6 +72,13 @@ pub record Leaves (a b : State) (rest whole : List ℕ) : Type 0 where
 pub leaves_all : (a : State) (whole : List ℕ) → Leaves a a whole whole
 leaves_all a whole = record { bytes = []; puts = puts_none a; joined = refl }
 
+pub leaves_same : (a b : State) (rest whole more all : List ℕ) → Leaves a b rest whole → rest ≡ more → whole ≡ all → Leaves a b more all
+leaves_same a b rest whole more all part left same = record {
+  bytes = part.bytes;
+  puts = part.puts;
+  joined = ap (λ l. part.bytes ++ l) (sym left) ∙ part.joined ∙ same;
+}
+
 pub leaves_less : (a b c : State) (ys rest more whole : List ℕ) → Leaves a b rest whole → Puts b c ys → rest ≡ ys ++ more → Leaves a c more whole
 leaves_less a b c ys rest more whole part next cut = record {
   bytes = part.bytes ++ ys;
