@@ -3,3 +3,4 @@ pub mod Calls
 pub mod Reads
 pub mod Answers
 pub mod Queries
+pub mod Stages

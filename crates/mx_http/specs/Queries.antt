@@ -8,6 +8,10 @@ use Rattle.form_urlencoded.specs.Form.{raw_pairs, decode}
 abbrev pub query_of : List ℕ → List ℕ
 query_of target = after_first (λ b. b == 63) target
 
--- the names and values of a query, decoded; what isn't UTF-8 then reads as U+FFFD
+-- a name and a value, decoded; what isn't UTF-8 then reads as U+FFFD
+abbrev pub decoded : List ℕ × List ℕ → List ℕ × List ℕ
+decoded pair = (utf8_lossy (decode pair.0), utf8_lossy (decode pair.1))
+
+-- the names and values of a query
 abbrev pub parameters : List ℕ → List (List ℕ × List ℕ)
-parameters query = map (λ p. (utf8_lossy (decode p.0), utf8_lossy (decode p.1))) (raw_pairs query)
+parameters query = map decoded (raw_pairs query)

@@ -9,7 +9,7 @@ use crate::account::data_of;
 use crate::answered::{Answered, Reply};
 use crate::asked::{Asked, asked_of};
 use crate::entry::Entry;
-use crate::query::query;
+use mx_http::query;
 use crate::refusal::Refusal;
 use crate::sync_query::since_of;
 use mx_http::Call;

@@ -9,8 +9,9 @@ ghost use Rattle.mxsync.specs.Sessions.{IsServed};
 ghost use Rattle.mxsync.specs.Steps.{Answers, Refuses, Turns, moment};
 
 use crate::entry::Entry;
-use crate::stand_in::{Reader, make_reader as reader, respond, write_answer};
-use mx_http::{Answer, Body, Call, HttpFault};
+use crate::respond::respond;
+use crate::stand_in::{Reader, make_reader as reader};
+use mx_http::{Answer, Body, Call, HttpFault, write_answer};
 use mx_ids::{Seq, Users};
 use mx_outside::{Sink, Source};
 use std::alloc::Global;

@@ -1,18 +1,11 @@
-ghost use Rattle.std.specs.Prelude.{◌≡◌, ◌≤◌, ◌++◌, ℕ, [], IfOk, OnOk, OnErr, IsErrOf, take};
-ghost use Rattle.std.specs.Io.KnownBytes.{prepend_known, Appends};
+ghost use Rattle.std.specs.Prelude.{◌≡◌, ◌≤◌, [], IfOk, IsErrOf};
+ghost use Rattle.std.specs.Io.KnownBytes.{prepend_known};
 ghost use Rattle.mx_outside.specs.Causes.{Rose};
-ghost use Rattle.mx_ids.specs.Users.{IsUsers};
-ghost use Rattle.mx_json.specs.Texts.{json_text};
 ghost use Rattle.mx_http.specs.Reads.{Reads};
-ghost use Rattle.mx_http.specs.Answers.{body_text, response_bytes};
-ghost use Rattle.mxsync.specs.Answers.{answer_to, stored_by};
-ghost use Rattle.mxsync.specs.Bodies.{status_by, json_by};
-ghost use Rattle.mxsync.specs.UsersFile.{users_of};
 
-use crate::entry::Entry;
-use mx_http::{Answer, Call, HttpFault};
-use mx_ids::{Memory, Seq, Users};
-use mx_outside::{Put, Sink, Source};
+use mx_http::{Call, HttpFault};
+use mx_ids::Memory;
+use mx_outside::Source;
 use std::alloc::Global;
 use std::marker::Model;
 
@@ -44,31 +37,3 @@ impl Reader {
     }
 }
 
-#[derive(Clone, Copy)]
-pub struct WriteFault;
-
-pub fn write_answer<K: Sink>(sink: &mut K, answer: &Answer, head_only: bool, close: bool) -> Result<(), WriteFault>
-    ensures done { OnOk result (Appends (K.written sink.old) (K.written sink.new) (response_bytes answer.now.status (body_text answer.now.body) head_only close)) }
-    ensures part { OnErr result ((n : ℕ) × Appends (K.written sink.old) (K.written sink.new) (take n (response_bytes answer.now.status (body_text answer.now.body) head_only close))) }
-    ensures count { K.faults sink.old ≤ K.faults sink.new }
-    ensures cause { OnErr result (Rose (K.faults sink.old) (K.faults sink.new)) }
-{
-    if head_only && close && answer.status == 0 {
-        return Err(WriteFault);
-    }
-    match sink.put(b"") {
-        Put::Done => Ok(()),
-        Put::Failed => Err(WriteFault),
-    }
-}
-
-pub fn respond(_alloc: Global, users: &Users, entries: &mut Seq<Entry>, call: &Call) -> Result<Answer, Memory>
-    requires { IsUsers users.now }
-    ensures status { IfOk result (λ a. a.status ≡ status_by (answer_to users.now entries.old call.now)) }
-    ensures body { IfOk result (λ a. body_text a.body ≡ json_text (json_by (answer_to users.now entries.old call.now))) }
-    ensures stored { OnOk result (entries.new ≡ entries.old ++ stored_by (answer_to users.now entries.old call.now)) }
-    ensures same { OnErr result (entries.new ≡ entries.old) }
-{
-    let (_users, _call, _entries) = (users, call, entries);
-    Err(Memory)
-}

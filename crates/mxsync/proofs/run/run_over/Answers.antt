@@ -1,4 +1,5 @@
 use Rattle.std.proofs.Common.{inr}
+use Rattle.mxsync.proofs.Agreement.{chain_agrees}
 use Rattle.mxsync.proofs.Outcomes.{users_read}
 use Rattle.mxsync.proofs.run.run_over.Goals as goal
 
@@ -17,5 +18,5 @@ returns-in-Ok-read_users g c =
       read_cause = c.serve_connection.ensures.read_cause;
       write_cause = c.serve_connection.ensures.write_cause;
       status_is = c.status_of.ensures;
-      chains = ?;
+      chains = chain_agrees c.in-Ok-read_users.users served.0 served.1;
     })
