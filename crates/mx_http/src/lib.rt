@@ -3,6 +3,17 @@
 
 mod call;
 mod fault;
+mod fields;
+mod grammar;
+mod head;
+mod held;
+mod laws;
+mod requests;
+mod start;
+mod target;
 
 pub use call::Call;
 pub use fault::HttpFault;
+pub use laws::calls_are_determined;
+pub use requests::Reader;
+pub use start::reader;
