@@ -1,9 +1,24 @@
 -- What the head parser's answers say of bytes that are at most as many as a head has.
-use Rattle.std.proofs.Common.{◌≡◌, ℕ, ◌+◌, ◌*◌, ◌<◌, ◌≤◌, ◌⊎◌, inl, inr, List, [], ◌∷◌, ◌++◌, length, refl, sym, ap, subst, ◌∙◌, arith, append_assoc, append-nil, length-append}
+use Rattle.std.proofs.Common.{◌≡◌, ℕ, ◌+◌, ◌*◌, ◌<◌, ◌≤◌, ◌⊎◌, inl, inr, ⊎_elim, IsTrue, true, IsUtf8, Option, Some, None, List, [], ◌∷◌, ◌++◌, length, take, drop, refl, sym, ap, subst, ◌∙◌, arith, append_assoc, append-nil, length-append, take-append-drop}
 use Rattle.std.specs.List.{All, flat_map}
+use Rattle.std.proofs.lemmas.Bool.Decides.{nat_tests}
+use Rattle.std.proofs.lemmas.List.{length-take-le, length-map}
+use Rattle.std.proofs.lemmas.List.Elements.{All-weaker}
+use Rattle.std.proofs.lemmas.Str.{IsUtf8-from_ascii}
+use Rattle.std.proofs.lemmas.Str.Ascii.{IsAscii-from_all}
 use Rattle.std.proofs.lemmas.List.Elements.{All-head, All-tail}
-use Rattle.httparse.specs.Grammar.{RequestHead, Field, IsField, lf, print_end, print_field, print_section, print_blank, print_version, print_request, HasNoRequest, NeverHasRequest}
-use Rattle.httparse.specs.Spans.{RequestExceeds}
+use Rattle.httparse.specs.Grammar.{RequestHead, Field, IsField, crlf, lf, print_end, print_field, print_section, print_blank, print_version, print_request, HasNoRequest, NeverHasRequest, MayBecomeRequest, EndsInTarget, is_token_byte, IsToken}
+use Rattle.httparse.specs.Spans.{RequestExceeds, IsRequestWithin, IsRequestOf, header_bytes, name_and_value, span_bytes}
+use Rattle.httparse.specs.declared.spans.HeaderSpan.{HeaderSpan}
+use Rattle.httparse.specs.declared.spans.RequestSpans.{RequestSpans}
+use Rattle.mx_http.specs.declared.head.Head.{Head}
+use Rattle.mx_http.specs.declared.grammar.Judged.{Judged}
+use Rattle.mx_http.specs.declared.grammar.Judged.TheVariants as judged
+use Rattle.mx_http.specs.Fields.{pairs_of, body_size, bearer_of, asks_close}
+use Rattle.mx_http.specs.Spans.{pairs_at}
+use Rattle.mx_http.specs.Calls.{head_limit, call_of, HasHead, HasSize, IsBlank, IsOpenHead, IsClosed, HasBadHead, HasBadSize, IsFaulty}
+use Rattle.mx_http.specs.Parts.{AreLineEnds, Judges, JudgesNone, with_body, HasParts}
+use Rattle.mx_http.proofs.Unique.{HasHead-append}
 
 -- a field line has at least three bytes
 field_counts : (f : Field) → IsField f → 3 ≤ length (print_field f)
@@ -34,3 +49,79 @@ no_excess bytes room short is over =
 -- a head that never comes isn't there
 pub none_from_never : (bytes : List ℕ) → NeverHasRequest bytes → HasNoRequest bytes
 none_from_never bytes never h rest x = never [] h rest (x.0, append-nil bytes ∙ x.1)
+
+pub judges_none : (bytes : List ℕ) (fields : List HeaderSpan) (r : Judged) → NeverHasRequest bytes → JudgesNone bytes r → Judges bytes fields r
+judges_none bytes fields (judged.Whole spans) never h = absurd h
+judges_none bytes fields judged.Open never h =
+    (none_from_never bytes never, ⊎_elim (λ (t : EndsInTarget bytes). inl (inr t)) (λ (l : AreLineEnds bytes). inr l) h)
+judges_none bytes fields judged.Bad never h = (never, h.0, h.1)
+
+-- ---- the parts of a head
+
+token_is_ascii : (b : ℕ) → is_token_byte b ≡ true → b < 128
+unfolding is_token_byte
+token_is_ascii b token = grind (arith, nat_tests)
+
+pub token_is_text : (bytes : List ℕ) → IsToken bytes → IsUtf8 bytes
+token_is_text bytes token =
+    IsUtf8-from_ascii bytes (IsAscii-from_all bytes (All-weaker (λ b. IsTrue (is_token_byte b)) (λ b. b < 128) token_is_ascii bytes token.1))
+
+pub parts_are : (bytes : List ℕ) (fields lines : List HeaderSpan) (spans : RequestSpans) (parts : Head)
+    → length bytes ≤ 16384 → IsRequestWithin bytes fields spans → IsRequestOf bytes fields spans
+    → lines ≡ take spans.headers fields → spans.headers ≤ 64
+    → Some parts.size ≡ body_size (pairs_at bytes lines) → parts.method ≡ span_bytes bytes spans.method → parts.target ≡ span_bytes bytes spans.path
+    → parts.bearer ≡ bearer_of (pairs_at bytes lines) → parts.close ≡ asks_close spans.version (pairs_at bytes lines) → parts.len ≡ spans.len
+    → HasParts bytes parts
+parts_are bytes fields lines spans parts short within whole front few size method target bearer close len =
+    let h = whole.0 in
+    let at = whole.1 in
+    let pairs : pairs_at bytes lines ≡ pairs_of h.fields = ap (pairs_at bytes) front ∙ at.fields in
+    let count : length h.fields ≡ spans.headers =
+    sym (length-map name_and_value h.fields) ∙ sym (ap length at.fields) ∙ length-map (header_bytes bytes) (take spans.headers fields) ∙ length-take-le spans.headers fields within.section.count_fits in
+    let same_method : h.method ≡ parts.method = sym (method ∙ at.method) in
+    let same_target : h.target ≡ parts.target = sym (target ∙ at.path) in
+    let same_bearer : bearer_of (pairs_of h.fields) ≡ parts.bearer = sym (bearer ∙ ap bearer_of pairs) in
+    let same_close : asks_close h.minor (pairs_of h.fields) ≡ parts.close = sym (close ∙ (λ i. asks_close (at.version i) (pairs i))) in
+    record {
+      head = h;
+      rest = drop spans.len bytes;
+      has_head = record { reads = at.reads; short = omega (arith, at.len, within.section.len_fits, short) };
+      has_size = record { few = omega (arith, count, few); said = sym (ap body_size pairs) ∙ sym size };
+      len = len ∙ at.len;
+      says = λ body i. record { method = same_method i; target = same_target i; bearer = same_bearer i; body = body; close = same_close i };
+    }
+
+-- ---- from the first bytes to all
+
+pub parts_of_all : (bytes : List ℕ) (n : ℕ) (parts : Head) → HasParts (take n bytes) parts → HasParts bytes parts
+parts_of_all bytes n parts x = subst (λ l. HasParts l parts) (take-append-drop n bytes) record {
+  head = x.head;
+  rest = x.rest ++ drop n bytes;
+  has_head = HasHead-append (take n bytes) (drop n bytes) x.head x.rest x.has_head;
+  has_size = x.has_size;
+  len = x.len;
+  says = x.says;
+}
+
+pub bad_size_of_all : (bytes : List ℕ) (n : ℕ) → HasBadSize (take n bytes) → IsFaulty bytes
+bad_size_of_all bytes n x = inr (subst HasBadSize (take-append-drop n bytes) record {
+  head = x.head;
+  rest = x.rest ++ drop n bytes;
+  has_head = HasHead-append (take n bytes) (drop n bytes) x.head x.rest x.has_head;
+  no_size = x.no_size;
+})
+
+pub open_of_all : (bytes : List ℕ) → length bytes < head_limit → HasNoRequest bytes → MayBecomeRequest bytes ⊎ AreLineEnds bytes → IsOpenHead bytes ⊎ IsBlank bytes
+open_of_all bytes short none open = ⊎_elim
+    (λ (m : MayBecomeRequest bytes). inl record { short = short; none = none; open_end = m })
+    (λ (l : AreLineEnds bytes). inr (short, l))
+    open
+
+pub long_is_bad : (bytes : List ℕ) → head_limit ≤ length bytes → HasNoRequest (take head_limit bytes) → IsFaulty bytes
+long_is_bad bytes long none = inl record { none = none; closed = inr long }
+
+pub closed_is_bad : (bytes : List ℕ) → NeverHasRequest (take head_limit bytes) → (EndsInTarget (take head_limit bytes) → ⊥) → (AreLineEnds (take head_limit bytes) → ⊥) → IsFaulty bytes
+closed_is_bad bytes never target lines = inl record {
+  none = none_from_never (take head_limit bytes) never;
+  closed = inl record { never = never; no_target = target; asks = λ b. lines b.1 };
+}

@@ -1,11 +1,12 @@
 -- The test whether bytes end inside a target decides it.
-use Rattle.std.proofs.Common.{◌≡◌, ℕ, ◌+◌, ◌<◌, ◌≤◌, Bool, true, false, ◌&&◌, ◌==◌, IsTrue, ◌↔◌, ◌⊎◌, inl, inr, ⊎_elim, if◌then◌else◌, List, [], ◌∷◌, ◌++◌, length, nat_lt, refl, sym, ap, subst, ◌∙◌, arith, append_assoc, length-append}
+use Rattle.std.proofs.Common.{◌≡◌, ℕ, ◌+◌, ◌<◌, ◌≤◌, Bool, true, false, ◌&&◌, ◌||◌, ◌==◌, IsTrue, ◌↔◌, ◌⊎◌, inl, inr, ⊎_elim, if◌then◌else◌, List, [], ◌∷◌, ◌++◌, length, nat_lt, refl, sym, ap, subst, ◌∙◌, arith, append_assoc, length-append}
 use Rattle.std.specs.List.{list_all}
 use Rattle.std.proofs.lemmas.Bool.{and_parts, cases_Bool, eqb-true, lt-ltb, ltb-true}
 use Rattle.std.proofs.lemmas.List.Elements.{All-head, All-tail, All-nil, All-cons}
 use Rattle.std.proofs.lemmas.List.Sums.{AllPass-from_list_all, list_all-from_AllPass}
 use Rattle.httparse.specs.Grammar.{LineEnd, crlf, lf, print_blank, is_token_byte, is_uri_byte, AllPass, IsToken, EndsInTarget}
 use Rattle.httparse.proofs.PieceLemmas.{space_ends_token}
+use Rattle.mx_http.specs.Parts.{AreLineEnds}
 use Rattle.mx_http.specs.Target.{behind_lines, behind_token, is_target_part, is_target_line, ends_in_target}
 
 -- ---- bytes that end inside a target pass the test
@@ -114,3 +115,6 @@ sound bytes h =
 
 pub test_decides : (r : Bool) (bytes : List ℕ) → r ≡ ends_in_target bytes → IsTrue r ↔ EndsInTarget bytes
 test_decides r bytes e = (λ t. sound bytes (sym e ∙ t), λ h. e ∙ complete bytes h)
+
+pub line_ends_decide : (r : Bool) (bytes : List ℕ) → r ≡ list_all (λ b. b == 13 || b == 10) bytes → IsTrue r ↔ AreLineEnds bytes
+line_ends_decide r bytes e = (λ t. AllPass-from_list_all (λ b. b == 13 || b == 10) bytes (sym e ∙ t), λ h. e ∙ list_all-from_AllPass (λ b. b == 13 || b == 10) bytes h)

@@ -1,6 +1,5 @@
 -- The head of a request as the reader takes it apart.
 use Rattle.std.specs.Prelude.{◌≡◌, ℕ, ◌<◌, ◌≤◌, ◌⊎◌, ◌||◌, ◌==◌, List, Option, Some, None, Result, Ok, Err, IsTrue, All, length}
-use Rattle.std.specs.Io.KnownBytes.{IsAtEnd}
 use Rattle.httparse.specs.Grammar.{RequestHead, print_request, HasNoRequest, NeverHasRequest, MayBecomeRequest, EndsInTarget}
 use Rattle.httparse.specs.Spans.{IsRequestWithin, IsRequestOf}
 use Rattle.httparse.specs.declared.spans.HeaderSpan.{HeaderSpan}
@@ -10,6 +9,7 @@ use Rattle.mx_http.specs.declared.grammar.Judged.{Judged}
 use Rattle.mx_http.specs.declared.grammar.Judged.TheVariants as judged
 use Rattle.mx_http.specs.declared.fault.HttpFault.{HttpFault}
 use Rattle.mx_http.specs.declared.fault.HttpFault.TheVariants as faults
+use Rattle.mx_http.specs.Reads.{Ended}
 use Rattle.mx_http.specs.Calls.{head_limit, call_of, HasHead, HasSize, IsBlank, IsOpenHead, IsUnfinished, IsFaulty, HasBadSize}
 
 -- each byte is CR or LF
@@ -21,6 +21,12 @@ abbrev pub Judges : List ℕ → List HeaderSpan → Judged → Type 0
 Judges bytes fields (judged.Whole spans) = IsRequestWithin bytes fields spans × IsRequestOf bytes fields spans
 Judges bytes fields judged.Open = HasNoRequest bytes × (MayBecomeRequest bytes ⊎ AreLineEnds bytes)
 Judges bytes fields judged.Bad = NeverHasRequest bytes × (EndsInTarget bytes → ⊥) × (AreLineEnds bytes → ⊥)
+
+-- the last two, where no head comes at the front
+abbrev pub JudgesNone : List ℕ → Judged → Type 0
+JudgesNone bytes (judged.Whole spans) = ⊥
+JudgesNone bytes judged.Open = EndsInTarget bytes ⊎ AreLineEnds bytes
+JudgesNone bytes judged.Bad = (EndsInTarget bytes → ⊥) × (AreLineEnds bytes → ⊥)
 
 -- the request of a head that was taken apart and a body
 abbrev pub with_body : Head → List ℕ → Call
@@ -52,11 +58,20 @@ FindsHead bytes (Err faults.Memory) = Unit {0}
 FindsHead bytes (Err faults.Cut) = ⊥
 FindsHead bytes (Err faults.ReadFault) = ⊥
 
--- the same, with what the source's end makes of it
-abbrev pub GivesHead : List ℕ → Option (List ℕ) → Result (Option Head) HttpFault → Type 0
-GivesHead held left (Ok (Some parts)) = HasParts held parts
-GivesHead held left (Ok None) = IsBlank held × IsAtEnd left
-GivesHead held left (Err faults.Head) = IsFaulty held
-GivesHead held left (Err faults.Cut) = IsUnfinished held × (IsBlank held → ⊥) × IsAtEnd left
-GivesHead held left (Err faults.ReadFault) = Unit {0}
-GivesHead held left (Err faults.Memory) = Unit {0}
+-- what bytes at whose front no head is whole are, at the end of the source
+abbrev pub EndsWith : List ℕ → Result (Option Head) HttpFault → Type 0
+EndsWith held (Ok (Some parts)) = ⊥
+EndsWith held (Ok None) = IsBlank held
+EndsWith held (Err faults.Cut) = IsUnfinished held × (IsBlank held → ⊥)
+EndsWith held (Err faults.Head) = ⊥
+EndsWith held (Err faults.ReadFault) = ⊥
+EndsWith held (Err faults.Memory) = ⊥
+
+-- a whole head at the front, the end of the source, or a fault
+abbrev pub GivesHead : Option (List ℕ) → List ℕ → Option (List ℕ) → Result (Option Head) HttpFault → Type 0
+GivesHead first held left (Ok (Some parts)) = HasParts held parts
+GivesHead first held left (Ok None) = IsBlank held × Ended first left
+GivesHead first held left (Err faults.Head) = IsFaulty held
+GivesHead first held left (Err faults.Cut) = IsUnfinished held × (IsBlank held → ⊥) × Ended first left
+GivesHead first held left (Err faults.ReadFault) = Unit {0}
+GivesHead first held left (Err faults.Memory) = Unit {0}

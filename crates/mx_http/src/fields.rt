@@ -127,7 +127,13 @@ fn has_close(value: &[u8]) -> bool
 {
     value
         .split(|byte| *byte == b',')
-        .any(|element| is_word(trim(element), b"close"))
+        .any(|element| is_close(element))
+}
+
+fn is_close(element: &[u8]) -> bool
+    ensures { result ≡ is_word (codes "close") (trim_ows element.now) }
+{
+    is_word(trim(element), b"close")
 }
 
 /// The bytes without the spaces and tabs at both ends.

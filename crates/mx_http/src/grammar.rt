@@ -1,6 +1,7 @@
 //! What the grammar of request heads says of the first bytes.
 ghost use Rattle.std.specs.Prelude.{◌≡◌, ◌≤◌, length};
-ghost use Rattle.mx_http.specs.Parts.{Judges};
+ghost use Rattle.httparse.specs.Grammar.{NeverHasRequest};
+ghost use Rattle.mx_http.specs.Parts.{Judges, JudgesNone};
 
 use crate::target::{are_line_ends, ends_in_target};
 use httparse::Status;
@@ -32,12 +33,18 @@ pub fn judge(bytes: &[u8], fields: &mut [HeaderSpan]) -> Judged
     match parse_request(bytes, fields) {
         Ok(Status::Complete(spans)) => Judged::Whole(spans),
         Ok(Status::Partial) => Judged::Open,
-        Err(_) => {
-            if ends_in_target(bytes) || are_line_ends(bytes) {
-                Judged::Open
-            } else {
-                Judged::Bad
-            }
-        }
+        Err(_) => judge_none(bytes),
+    }
+}
+
+/// Judges bytes at whose front no head comes by its grammar.
+fn judge_none(bytes: &[u8]) -> Judged
+    requires { NeverHasRequest bytes.now }
+    ensures { JudgesNone bytes.now result }
+{
+    if ends_in_target(bytes) || are_line_ends(bytes) {
+        Judged::Open
+    } else {
+        Judged::Bad
     }
 }

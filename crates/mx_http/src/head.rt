@@ -86,11 +86,15 @@ fn take_apart(
     let Some(size) = body_size(bytes, lines) else {
         return Err(HttpFault::Head);
     };
+    let method = copy_text(alloc, spans.method.of(bytes))?;
+    let target = copy_text(alloc, spans.path.of(bytes))?;
+    let bearer = copy_token(alloc, bearer(bytes, lines))?;
+    let close = asks_close(spans.version, bytes, lines);
     Ok(Head {
-        method: copy_text(alloc, spans.method.of(bytes))?,
-        target: copy_text(alloc, spans.path.of(bytes))?,
-        bearer: copy_token(alloc, bearer(bytes, lines))?,
-        close: asks_close(spans.version, bytes, lines),
+        method,
+        target,
+        bearer,
+        close,
         len: spans.len,
         size,
     })

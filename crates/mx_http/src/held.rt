@@ -1,6 +1,7 @@
 //! The bytes that a reader holds.
-ghost use Rattle.std.specs.Prelude.{◌≡◌, ◌<◌, ◌≤◌, [], length, drop, OnOk, IfOk, IsErrOf};
+ghost use Rattle.std.specs.Prelude.{◌≡◌, ◌-◌, ◌<◌, ◌≤◌, [], length, take, drop, OnOk, IfOk, IsErrOf};
 ghost use Rattle.mx_outside.specs.Causes.{Rose};
+ghost use Rattle.mx_outside.specs.Moves.{FitsRoom, Moves};
 ghost use Rattle.mx_http.specs.Window.{Fills};
 
 use crate::fault::HttpFault;
@@ -35,7 +36,7 @@ impl Model for Held {
 
     ghost Value = { Window };
 
-    ghost view = { λ h. record { held = slice_range h.bytes.items h.start h.end; room = vec_len h.bytes - h.end } };
+    ghost view = { λ h. record { gap = h.start; held = slice_range h.bytes.items h.start h.end; room = vec_len h.bytes - h.end } };
 
     ghost invariant = { λ h. (h.start ≤ h.end) × (h.end ≤ vec_len h.bytes) × (0 < vec_len h.bytes) × (vec_len h.bytes ≤ 1064960) };
 }
@@ -82,7 +83,7 @@ impl Held {
         ensures cause { IsErrOf result HttpFault.ReadFault → Rose (S.faults source.old) (S.faults source.new) }
     {
         self.make_room()?;
-        match source.take(&mut self.bytes[self.end..]) {
+        match take_behind(source, self.bytes.as_mut_slice(), self.end) {
             Took::Got(count) => {
                 self.end += count;
                 Ok(true)
@@ -101,29 +102,46 @@ impl Held {
         if self.bytes.len() - self.end >= PIECE {
             return Ok(());
         }
-        if self.start > 0 {
-            self.shift();
+        self.shift();
+        if self.bytes.len() - self.end >= PIECE {
+            return Ok(());
         }
         self.grow()
     }
 
     /// Moves the bytes to the front.
     fn shift(&mut self)
-        ensures { self.new.held ≡ self.old.held }
+        ensures same { self.new.held ≡ self.old.held }
+        ensures front { self.new.gap ≡ 0 }
     {
-        self.bytes.copy_within(self.start..self.end, 0);
-        self.end -= self.start;
-        self.start = 0;
+        if self.start > 0 {
+            self.bytes.copy_within(self.start..self.end, 0);
+            self.end -= self.start;
+            self.start = 0;
+        }
     }
 
-    /// Doubles the room where it is short.
+    /// Doubles the room.
     fn grow(&mut self) -> Result<(), Memory>
+        requires front { self.old.gap ≡ 0 }
+        requires short { length self.old.held < MOST_ROOM }
+        ensures room { OnOk result (0 < self.new.room) }
         ensures same { self.new.held ≡ self.old.held }
     {
-        if self.bytes.len() - self.end < PIECE {
-            let len = (2 * self.bytes.len()).min(MOST_ROOM);
-            self.bytes.resize(len, 0)?;
-        }
+        let len = (2 * self.bytes.len()).min(MOST_ROOM);
+        self.bytes.resize(len, 0)?;
         Ok(())
     }
+}
+
+/// Takes bytes into the room from `end` on.
+fn take_behind<S: Source>(source: &mut S, bytes: &mut [u8], end: usize) -> Took
+    requires { end < length bytes.old }
+    ensures front { take end bytes.new ≡ take end bytes.old }
+    ensures moves { Moves (S.left source.old) (S.left source.new) result (drop end bytes.new) }
+    ensures room { FitsRoom result (length bytes.old - end) }
+    ensures count { S.faults source.old ≤ S.faults source.new }
+    ensures cause { result ≡ Took.Failed → Rose (S.faults source.old) (S.faults source.new) }
+{
+    source.take(&mut bytes[end..])
 }

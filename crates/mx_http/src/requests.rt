@@ -1,11 +1,10 @@
 //! The reader of requests.
-ghost use Rattle.std.specs.Prelude.{◌≡◌, ◌==◌, ◌||◌, ◌<◌, ◌≤◌, ◌++◌, ℕ, List, [], length, drop, slice_range, IfOk, OnOk, OnErr, IsErrOf};
-ghost use Rattle.std.specs.List.{list_all};
-ghost use Rattle.std.specs.Io.KnownBytes.{prepend_known, Keeps, IsAtEnd};
+ghost use Rattle.std.specs.Prelude.{◌≡◌, ◌↔◌, ◌⊎◌, true, false, ◌<◌, ◌≤◌, ◌++◌, ℕ, List, [], length, drop, slice_range, IfOk, OnOk, OnErr, IsErrOf, IsTrue};
+ghost use Rattle.std.specs.Io.KnownBytes.{prepend_known, Keeps};
 ghost use Rattle.mx_outside.specs.Causes.{Rose};
-ghost use Rattle.mx_http.specs.Reads.{Reads};
-ghost use Rattle.mx_http.specs.Window.{Fills};
-ghost use Rattle.mx_http.specs.Parts.{FindsHead, GivesHead};
+ghost use Rattle.mx_http.specs.Reads.{Ended, Reads};
+ghost use Rattle.mx_http.specs.Calls.{IsBlank, IsOpenHead};
+ghost use Rattle.mx_http.specs.Parts.{AreLineEnds, EndsWith, FindsHead, GivesHead};
 
 use crate::call::Call;
 use crate::fault::HttpFault;
@@ -84,16 +83,16 @@ impl Reader {
         source: &mut S,
     ) -> Result<Option<Head>, HttpFault>
         ensures kept { Keeps (prepend_known self.old (S.left source.old)) (prepend_known self.new (S.left source.new)) }
-        ensures gives { GivesHead self.new (S.left source.new) result }
+        ensures gives { GivesHead (prepend_known self.old (S.left source.old)) self.new (S.left source.new) result }
         ensures count { S.faults source.old ≤ S.faults source.new }
         ensures cause { IsErrOf result HttpFault.ReadFault → Rose (S.faults source.old) (S.faults source.new) }
     {
-        'fill: loop {
+        'more: loop {
             if let Some(head) = self.find_head(alloc)? {
                 return Ok(Some(head));
             }
             if !self.fill(source)? {
-                return if self.is_blank() { Ok(None) } else { Err(HttpFault::Cut) };
+                return self.end_of_source();
             }
         }
     }
@@ -104,12 +103,12 @@ impl Reader {
         ensures kept { Keeps (prepend_known self.old (S.left source.old)) (prepend_known self.new (S.left source.new)) }
         ensures grown { (more : List ℕ) × (self.new ≡ self.old ++ more) }
         ensures whole { OnOk result (whole ≤ length self.new) }
-        ensures cut { IsErrOf result HttpFault.Cut → (length self.new < whole) × IsAtEnd (S.left source.new) }
+        ensures cut { IsErrOf result HttpFault.Cut → (length self.new < whole) × Ended (prepend_known self.old (S.left source.old)) (S.left source.new) }
         ensures none { IsErrOf result HttpFault.Head → ⊥ }
         ensures count { S.faults source.old ≤ S.faults source.new }
         ensures cause { IsErrOf result HttpFault.ReadFault → Rose (S.faults source.old) (S.faults source.new) }
     {
-        'fill: while self.held.len() < whole {
+        'more: while self.held.len() < whole {
             if !self.fill(source)? {
                 return Err(HttpFault::Cut);
             }
@@ -120,11 +119,27 @@ impl Reader {
     /// Takes more bytes, and says whether there were any.
     fn fill<S: Source>(&mut self, source: &mut S) -> Result<bool, HttpFault>
         requires { length self.old < MOST_ROOM }
-        ensures fills { Fills (S.left source.old) (S.left source.new) self.old self.new result }
+        ensures kept { Keeps (prepend_known self.old (S.left source.old)) (prepend_known self.new (S.left source.new)) }
+        ensures grown { (more : List ℕ) × (self.new ≡ self.old ++ more) }
+        ensures longer { IfOk result (λ some. some ≡ true → length self.old < length self.new) }
+        ensures ended { IfOk result (λ some. some ≡ false → (self.new ≡ self.old) × Ended (S.left source.old) (S.left source.new)) }
+        ensures faults { (IsErrOf result HttpFault.Head → ⊥) × (IsErrOf result HttpFault.Cut → ⊥) }
         ensures count { S.faults source.old ≤ S.faults source.new }
         ensures cause { IsErrOf result HttpFault.ReadFault → Rose (S.faults source.old) (S.faults source.new) }
     {
         self.held.fill(source)
+    }
+
+    /// What the end of the source makes of bytes at whose front no head is whole.
+    fn end_of_source(&self) -> Result<Option<Head>, HttpFault>
+        requires { IsOpenHead self.now ⊎ IsBlank self.now }
+        ensures { EndsWith self.now result }
+    {
+        if self.is_blank() {
+            Ok(None)
+        } else {
+            Err(HttpFault::Cut)
+        }
     }
 
     /// The head at the front of the bytes, or none where it isn't whole yet.
@@ -137,7 +152,7 @@ impl Reader {
 
     /// Whether the bytes are CR and LF alone.
     fn is_blank(&self) -> bool
-        ensures { result ≡ list_all (λ b. b == 13 || b == 10) self.now }
+        ensures { IsTrue result ↔ AreLineEnds self.now }
     {
         are_line_ends(self.held.as_slice())
     }

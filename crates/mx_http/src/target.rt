@@ -2,6 +2,7 @@
 ghost use Rattle.std.specs.Prelude.{◌≡◌, ◌↔◌, ◌==◌, ◌||◌, false, IsTrue};
 ghost use Rattle.std.specs.List.{list_all};
 ghost use Rattle.httparse.specs.Grammar.{EndsInTarget, is_token_byte, is_uri_byte};
+ghost use Rattle.mx_http.specs.Parts.{AreLineEnds};
 ghost use Rattle.mx_http.specs.Target.{behind_lines, behind_token, ends_in_target};
 
 /// Whether the bytes end inside the target of a request.
@@ -62,7 +63,14 @@ fn is_token_byte(byte: u8) -> bool
 }
 
 /// Whether each byte is CR or LF.
+#[tactic(auto, using(crate::proofs::Targets::line_ends_decide))]
 pub fn are_line_ends(bytes: &[u8]) -> bool
+    ensures { IsTrue result ↔ AreLineEnds bytes.now }
+{
+    pass_line_ends(bytes)
+}
+
+fn pass_line_ends(bytes: &[u8]) -> bool
     ensures { result ≡ list_all (λ b. b == 13 || b == 10) bytes.now }
 {
     bytes.iter().all(|byte| *byte == b'\r' || *byte == b'\n')
