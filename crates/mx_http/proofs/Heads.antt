@@ -1,32 +1,36 @@
 -- What the head parser's answers say of bytes that are at most as many as a head has.
-use Rattle.std.proofs.Common.{◌≡◌, ℕ, ◌+◌, ◌*◌, ◌<◌, ◌≤◌, ◌⊎◌, inl, inr, ⊎_elim, IsTrue, true, IsUtf8, Option, Some, None, List, [], ◌∷◌, ◌++◌, length, take, drop, refl, sym, ap, subst, ◌∙◌, arith, append_assoc, append-nil, length-append, take-append-drop}
+use Rattle.std.proofs.Common.{◌≡◌, ℕ, ◌+◌, ◌*◌, ◌<◌, ◌≤◌, ◌⊎◌, inl, inr, ⊎_elim, IsTrue, true, IsUtf8, Option, Some, None, Result, Ok, Err, List, [], ◌∷◌, ◌++◌, length, take, drop, refl, sym, ap, subst, ◌∙◌, arith, append_assoc, append-nil, length-append, take-append-drop}
 use Rattle.std.specs.List.{All, flat_map}
 use Rattle.std.proofs.lemmas.Bool.Decides.{nat_tests}
-use Rattle.std.proofs.lemmas.List.{length-take-le, length-map}
+use Rattle.std.proofs.lemmas.List.{length-take-le, length-map, take_all}
 use Rattle.std.proofs.lemmas.List.Elements.{All-weaker}
 use Rattle.std.proofs.lemmas.Str.{IsUtf8-from_ascii}
 use Rattle.std.proofs.lemmas.Str.Ascii.{IsAscii-from_all}
 use Rattle.std.proofs.lemmas.List.Elements.{All-head, All-tail}
-use Rattle.httparse.specs.Grammar.{RequestHead, Field, IsField, crlf, lf, print_end, print_field, print_section, print_blank, print_version, print_request, HasNoRequest, NeverHasRequest, MayBecomeRequest, EndsInTarget, is_token_byte, IsToken}
+use Rattle.httparse.specs.Grammar.{RequestHead, LineEnd, Field, IsField, crlf, lf, print_end, print_field, print_section, print_blank, print_version, print_request, HasNoRequest, NeverHasRequest, MayBecomeRequest, EndsInTarget, is_token_byte, IsToken}
 use Rattle.httparse.specs.Spans.{RequestExceeds, IsRequestWithin, IsRequestOf, header_bytes, name_and_value, span_bytes}
 use Rattle.httparse.specs.declared.spans.HeaderSpan.{HeaderSpan}
 use Rattle.httparse.specs.declared.spans.RequestSpans.{RequestSpans}
 use Rattle.mx_http.specs.declared.head.Head.{Head}
 use Rattle.mx_http.specs.declared.grammar.Judged.{Judged}
 use Rattle.mx_http.specs.declared.grammar.Judged.TheVariants as judged
+use Rattle.mx_http.specs.declared.fault.HttpFault.{HttpFault}
+use Rattle.mx_http.specs.declared.fault.HttpFault.TheVariants as faults
 use Rattle.mx_http.specs.Fields.{pairs_of, body_size, bearer_of, asks_close}
 use Rattle.mx_http.specs.Spans.{pairs_at}
 use Rattle.mx_http.specs.Calls.{head_limit, call_of, HasHead, HasSize, IsBlank, IsOpenHead, IsClosed, HasBadHead, HasBadSize, IsFaulty}
-use Rattle.mx_http.specs.Parts.{AreLineEnds, Judges, JudgesNone, with_body, HasParts}
+use Rattle.mx_http.specs.Parts.{AreLineEnds, Judges, JudgesNone, with_body, HasParts, TakesApart, FindsHead}
 use Rattle.mx_http.proofs.Unique.{HasHead-append}
+
+end_counts : (end : LineEnd) → 1 ≤ length (print_end end)
+end_counts crlf = omega arith
+end_counts lf = omega arith
 
 -- a field line has at least three bytes
 field_counts : (f : Field) → IsField f → 3 ≤ length (print_field f)
 field_counts f is =
-    omega (arith, is.name.0, length-append f.name (58 ∷ (f.raw ++ print_end f.end)), length-append f.raw (print_end f.end), end_counts f)
-  where
-    end_counts : (g : Field) → 1 ≤ length (print_end g.end)
-    end_counts g = elim g.end as (λ e. 1 ≤ length (print_end e)) [ crlf ↦ omega arith | lf ↦ omega arith ]
+    let all : length (print_field f) ≡ length (f.name ++ 58 ∷ f.raw) + length (print_end f.end) = length-append (f.name ++ 58 ∷ f.raw) (print_end f.end) in
+    omega (arith, is.name.0, all, length-append f.name (58 ∷ f.raw), end_counts f.end)
 
 fields_count : (fields : List Field) → All IsField fields → 3 * length fields ≤ length (flat_map print_field fields)
 fields_count [] all = omega arith
@@ -77,7 +81,7 @@ parts_are bytes fields lines spans parts short within whole front few size metho
     let at = whole.1 in
     let pairs : pairs_at bytes lines ≡ pairs_of h.fields = ap (pairs_at bytes) front ∙ at.fields in
     let count : length h.fields ≡ spans.headers =
-    sym (length-map name_and_value h.fields) ∙ sym (ap length at.fields) ∙ length-map (header_bytes bytes) (take spans.headers fields) ∙ length-take-le spans.headers fields within.section.count_fits in
+    sym (length-map h.fields name_and_value) ∙ sym (ap length at.fields) ∙ length-map (take spans.headers fields) (header_bytes bytes) ∙ length-take-le spans.headers fields within.section.count_fits in
     let same_method : h.method ≡ parts.method = sym (method ∙ at.method) in
     let same_target : h.target ≡ parts.target = sym (target ∙ at.path) in
     let same_bearer : bearer_of (pairs_of h.fields) ≡ parts.bearer = sym (bearer ∙ ap bearer_of pairs) in
@@ -112,10 +116,10 @@ bad_size_of_all bytes n x = inr (subst HasBadSize (take-append-drop n bytes) rec
 })
 
 pub open_of_all : (bytes : List ℕ) → length bytes < head_limit → HasNoRequest bytes → MayBecomeRequest bytes ⊎ AreLineEnds bytes → IsOpenHead bytes ⊎ IsBlank bytes
-open_of_all bytes short none open = ⊎_elim
+open_of_all bytes short none may = ⊎_elim
     (λ (m : MayBecomeRequest bytes). inl record { short = short; none = none; open_end = m })
     (λ (l : AreLineEnds bytes). inr (short, l))
-    open
+    may
 
 pub long_is_bad : (bytes : List ℕ) → head_limit ≤ length bytes → HasNoRequest (take head_limit bytes) → IsFaulty bytes
 long_is_bad bytes long none = inl record { none = none; closed = inr long }
@@ -125,3 +129,27 @@ closed_is_bad bytes never target lines = inl record {
   none = none_from_never (take head_limit bytes) never;
   closed = inl record { never = never; no_target = target; asks = λ b. lines b.1 };
 }
+
+-- ---- the answers of the reader of heads
+
+pub apart_finds : (bytes front : List ℕ) (r : Result (Option Head) HttpFault) → front ≡ take head_limit bytes → TakesApart front r → FindsHead bytes r
+apart_finds bytes front (Ok (Some parts)) e x = parts_of_all bytes head_limit parts (subst (λ l. HasParts l parts) e x)
+apart_finds bytes front (Ok None) e x = absurd x
+apart_finds bytes front (Err faults.Head) e x = bad_size_of_all bytes head_limit (subst HasBadSize e x)
+apart_finds bytes front (Err faults.Memory) e x = tt
+apart_finds bytes front (Err faults.Cut) e x = absurd x
+apart_finds bytes front (Err faults.ReadFault) e x = absurd x
+
+pub open_finds : (bytes front : List ℕ) (fields : List HeaderSpan) → front ≡ take head_limit bytes → length bytes < head_limit → Judges front fields judged.Open
+    → FindsHead bytes (Ok None)
+open_finds bytes front fields e short x =
+    let all : front ≡ bytes = e ∙ take_all head_limit bytes (omega arith) in
+    let now = subst (λ l. Judges l fields judged.Open) all x in
+    (short, open_of_all bytes short now.0 now.1)
+
+pub long_finds : (bytes front : List ℕ) (fields : List HeaderSpan) → front ≡ take head_limit bytes → head_limit ≤ length bytes → Judges front fields judged.Open
+    → FindsHead bytes (Err faults.Head)
+long_finds bytes front fields e long x = long_is_bad bytes long (subst HasNoRequest e x.0)
+
+pub bad_finds : (bytes front : List ℕ) (fields : List HeaderSpan) → front ≡ take head_limit bytes → Judges front fields judged.Bad → FindsHead bytes (Err faults.Head)
+bad_finds bytes front fields e x = let now = subst (λ l. Judges l fields judged.Bad) e x in closed_is_bad bytes now.0 now.1 now.2

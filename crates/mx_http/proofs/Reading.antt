@@ -3,7 +3,7 @@ use Rattle.std.proofs.Common.{◌≡◌, ℕ, ◌+◌, ◌-◌, ◌<◌, ◌≤�
 use Rattle.std.specs.Io.KnownBytes.{prepend_known, Consumes, Keeps, IsAtEnd}
 use Rattle.std.proofs.KnownBytes.{Keeps-trans, Consumes-kept}
 use Rattle.std.proofs.lemmas.List.{length-take-le}
-use Rattle.std.proofs.Math.Seq.{take-append-add, drop-append}
+use Rattle.std.proofs.Math.Seq.{take-append-add, drop-append_seam}
 use Rattle.httparse.specs.Grammar.{print_request}
 use Rattle.mx_http.specs.declared.call.Call.{Call}
 use Rattle.mx_http.specs.declared.head.Head.{Head}
@@ -79,11 +79,16 @@ ended_before None left now held p q = tt
 ended_before (Some x) None now held p q = absurd p
 ended_before (Some x) (Some y) now held p q = q
 
+pub ended_along : (first mid now : Option (List ℕ)) → Keeps first mid → Ended mid now → Ended first now
+ended_along None mid now p q = tt
+ended_along (Some x) None now p q = absurd p
+ended_along (Some x) (Some y) now p q = q
+
 pub cut_open : (held : List ℕ) → IsOpenHead held ⊎ IsBlank held → (AreLineEnds held → ⊥) → EndsWith held (Err faults.Cut)
-cut_open held open other = ⊎_elim (λ (o : IsOpenHead held). (inl o, λ (b : IsBlank held). other b.1)) (λ (b : IsBlank held). absurd (other b.1)) open
+cut_open held may other = ⊎_elim (λ (o : IsOpenHead held). (inl o, λ (b : IsBlank held). other b.1)) (λ (b : IsBlank held). absurd (other b.1)) may
 
 pub blank_open : (held : List ℕ) → IsOpenHead held ⊎ IsBlank held → AreLineEnds held → EndsWith held (Ok None)
-blank_open held open lines = ⊎_elim (λ (o : IsOpenHead held). (o.short, lines)) (λ (b : IsBlank held). b) open
+blank_open held may lines = ⊎_elim (λ (o : IsOpenHead held). (o.short, lines)) (λ (b : IsBlank held). b) may
 
 pub find_failed : (first left : Option (List ℕ)) (held : List ℕ) (e : HttpFault) → FindsHead held (Err e) → GivesHead first held left (Err e)
 find_failed first left held faults.Head h = h
@@ -123,6 +128,9 @@ more_parts held more parts x = record {
   says = x.says;
 }
 
+pub given_parts : (first left : Option (List ℕ)) (held : List ℕ) (found : Option Head) (parts : Head) → found ≡ Some parts → GivesHead first held left (Ok found) → HasParts held parts
+given_parts first left held found parts e h = subst (λ o. GivesHead first held left (Ok o)) e h
+
 pub parts_now : (held now more : List ℕ) (parts : Head) → HasParts held parts → now ≡ held ++ more → HasParts now parts
 parts_now held now more parts x e = subst (λ l. HasParts l parts) (sym e) (more_parts held more parts x)
 
@@ -143,7 +151,7 @@ body_cut held parts x short = (
 pub body_failed : (first new left : Option (List ℕ)) (held : List ℕ) (parts : Head) (e : HttpFault) → Keeps first new → HasParts held parts
     → (e ≡ faults.Head → ⊥) → (e ≡ faults.Cut → (length held < parts.len + parts.size) × Ended first left) → Reads first new held left (Err e)
 body_failed first new left held parts faults.Head p x a b = absurd (a refl)
-body_failed first new left held parts faults.Cut p x a b = let cut = b refl in let open = body_cut held parts x cut.0 in (p, open.0, open.1, cut.1)
+body_failed first new left held parts faults.Cut p x a b = let cut = b refl in let short = body_cut held parts x cut.0 in (p, short.0, short.1, cut.1)
 body_failed first new left held parts faults.ReadFault p x a b = p
 body_failed first new left held parts faults.Memory p x a b = p
 
@@ -161,7 +169,7 @@ whole_call held body parts n x size fits is =
     let room : parts.size ≤ length x.rest = omega (arith, fits, said, ap length x.has_head.reads.1, length-append front x.rest) in
     let made : body ≡ take parts.size x.rest =
     is ∙ ap (λ k. take k (drop parts.len held)) (let e : n - parts.len ≡ parts.size = omega (arith, size) in e)
-    ∙ ap (λ k. take parts.size (drop k held)) x.len ∙ ap (λ l. take parts.size (drop (length front) l)) x.has_head.reads.1 ∙ ap (take parts.size) (drop-append front x.rest) in
+    ∙ ap (λ k. take parts.size (drop k held)) x.len ∙ ap (λ l. take parts.size (drop (length front) l)) x.has_head.reads.1 ∙ ap (take parts.size) (drop-append_seam front x.rest) in
     record {
       head = x.head;
       body = body;

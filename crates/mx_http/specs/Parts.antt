@@ -42,8 +42,9 @@ pub record HasParts (bytes : List ℕ) (parts : Head) : Type 0 where
   pub says : (body : List ℕ) → call_of head body ≡ with_body parts body
 
 -- what the parts of a whole head are, or that it breaks a limit
-abbrev pub TakesApart : List ℕ → Result Head HttpFault → Type 0
-TakesApart bytes (Ok parts) = HasParts bytes parts
+abbrev pub TakesApart : List ℕ → Result (Option Head) HttpFault → Type 0
+TakesApart bytes (Ok (Some parts)) = HasParts bytes parts
+TakesApart bytes (Ok None) = ⊥
 TakesApart bytes (Err faults.Head) = HasBadSize bytes
 TakesApart bytes (Err faults.Memory) = Unit {0}
 TakesApart bytes (Err faults.Cut) = ⊥

@@ -59,11 +59,29 @@ pub fn read_head(
     requires { length fields.old ≡ FIELD_ROOM }
     ensures { FindsHead bytes.now result }
 {
-    let front = &bytes[..bytes.len().min(HEAD_LIMIT)];
+    let front = first_bytes(bytes);
     match judge(front, fields) {
-        Judged::Whole(spans) => Ok(Some(take_apart(alloc, front, spans, fields)?)),
-        Judged::Open if bytes.len() < HEAD_LIMIT => Ok(None),
-        _ => Err(HttpFault::Head),
+        Judged::Whole(spans) => take_apart(alloc, front, spans, fields),
+        Judged::Open => {
+            if bytes.len() < HEAD_LIMIT {
+                Ok(None)
+            } else {
+                Err(HttpFault::Head)
+            }
+        }
+        Judged::Bad => Err(HttpFault::Head),
+    }
+}
+
+/// As many of the bytes as a head may have.
+fn first_bytes(bytes: &[u8]) -> &[u8]
+    ensures front { result.now ≡ take HEAD_LIMIT bytes.now }
+    ensures short { length result.now ≤ HEAD_LIMIT }
+{
+    if bytes.len() <= HEAD_LIMIT {
+        bytes
+    } else {
+        &bytes[..HEAD_LIMIT]
     }
 }
 
@@ -73,7 +91,7 @@ fn take_apart(
     bytes: &[u8],
     spans: RequestSpans,
     fields: &[HeaderSpan],
-) -> Result<Head, HttpFault>
+) -> Result<Option<Head>, HttpFault>
     requires short { length bytes.now ≤ HEAD_LIMIT }
     requires within { IsRequestWithin bytes.now fields.now spans }
     requires whole { IsRequestOf bytes.now fields.now spans }
@@ -90,14 +108,14 @@ fn take_apart(
     let target = copy_text(alloc, spans.path.of(bytes))?;
     let bearer = copy_token(alloc, bearer(bytes, lines))?;
     let close = asks_close(spans.version, bytes, lines);
-    Ok(Head {
+    Ok(Some(Head {
         method,
         target,
         bearer,
         close,
         len: spans.len,
         size,
-    })
+    }))
 }
 
 /// A copy of bytes that are UTF-8.
