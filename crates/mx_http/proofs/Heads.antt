@@ -1,5 +1,5 @@
 -- What the head parser's answers say of bytes that are at most as many as a head has.
-use Rattle.std.proofs.Common.{◌≡◌, ℕ, ◌+◌, ◌*◌, ◌<◌, ◌≤◌, ◌⊎◌, inl, inr, ⊎_elim, IsTrue, true, IsUtf8, Option, Some, None, Result, Ok, Err, List, [], ◌∷◌, ◌++◌, length, take, drop, refl, sym, ap, subst, ◌∙◌, arith, append_assoc, append-nil, length-append, take-append-drop}
+use Rattle.std.proofs.Common.{◌≡◌, ℕ, ◌+◌, ◌*◌, ◌<◌, ◌≤◌, ◌⊎◌, inl, inr, ⊎_elim, IsTrue, true, IsUtf8, Option, Some, None, Result, Ok, Err, List, [], ◌∷◌, ◌++◌, length, take, drop, sym, ap, subst, ◌∙◌, arith, append-nil, length-append, take-append-drop}
 use Rattle.std.specs.List.{All, flat_map}
 use Rattle.std.proofs.lemmas.Bool.Decides.{nat_tests}
 use Rattle.std.proofs.lemmas.List.{length-take-le, length-map, take_all}
@@ -18,8 +18,8 @@ use Rattle.mx_http.specs.declared.fault.HttpFault.{HttpFault}
 use Rattle.mx_http.specs.declared.fault.HttpFault.TheVariants as faults
 use Rattle.mx_http.specs.Fields.{pairs_of, body_size, bearer_of, asks_close}
 use Rattle.mx_http.specs.Spans.{pairs_at}
-use Rattle.mx_http.specs.Calls.{head_limit, call_of, HasHead, HasSize, IsBlank, IsOpenHead, IsClosed, HasBadHead, HasBadSize, IsFaulty}
-use Rattle.mx_http.specs.Parts.{AreLineEnds, Judges, JudgesNone, with_body, HasParts, TakesApart, FindsHead}
+use Rattle.mx_http.specs.Calls.{head_limit, IsBlank, IsOpenHead, HasBadSize, IsFaulty}
+use Rattle.mx_http.specs.Parts.{AreLineEnds, Judges, JudgesNone, HasParts, TakesApart, FindsHead}
 use Rattle.mx_http.proofs.Unique.{HasHead-append}
 
 end_counts : (end : LineEnd) → 1 ≤ length (print_end end)

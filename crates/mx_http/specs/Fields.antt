@@ -1,6 +1,6 @@
 -- What the field lines of a request say: names are compared without regard to ASCII case, and
 -- white space around a value is no part of it (RFC 9110, section 5).
-use Rattle.std.specs.Prelude.{ℕ, ◌+◌, ◌&&◌, ◌||◌, ◌==◌, List, [], ◌∷◌, Bool, Option, Some, None, map, filter, length, drop, nat_lt, nat_le, if◌then◌else◌, codes}
+use Rattle.std.specs.Prelude.{ℕ, ◌&&◌, ◌||◌, ◌==◌, List, [], ◌∷◌, Bool, Option, Some, None, map, filter, length, drop, nat_lt, nat_le, if◌then◌else◌, codes}
 use Rattle.std.specs.List.{list_all, list_any, slice_split, starts_with}
 use Rattle.std.specs.Char.{is_ascii_digit}
 use Rattle.std.specs.Str.{bytes_eq, str_to_ascii_lowercase}

@@ -1,6 +1,6 @@
 -- What a call of the reader does to what is ahead of it: the bytes that it holds, and those that its source has left.
-use Rattle.std.specs.Prelude.{◌≡◌, ℕ, List, Option, Some, None, Result, Ok, Err, ⊤}
-use Rattle.std.specs.Io.KnownBytes.{prepend_known, Consumes, Keeps, IsAtEnd}
+use Rattle.std.specs.Prelude.{ℕ, List, Option, Some, None, Result, Ok, Err, ⊤}
+use Rattle.std.specs.Io.KnownBytes.{Consumes, Keeps, IsAtEnd}
 use Rattle.mx_http.specs.declared.call.Call.{Call}
 use Rattle.mx_http.specs.declared.fault.HttpFault.{HttpFault}
 use Rattle.mx_http.specs.declared.fault.HttpFault.TheVariants as faults

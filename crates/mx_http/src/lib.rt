@@ -17,3 +17,6 @@ pub use fault::HttpFault;
 pub use laws::calls_are_determined;
 pub use requests::Reader;
 pub use start::reader;
+
+#[cfg(test)]
+mod tests;

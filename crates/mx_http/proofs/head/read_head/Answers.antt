@@ -1,4 +1,3 @@
-use Rattle.std.proofs.Common.{arith}
 use Rattle.mx_http.proofs.Heads.{apart_finds, open_finds, long_finds, bad_finds}
 use Rattle.mx_http.proofs.head.read_head.Goals as goal
 

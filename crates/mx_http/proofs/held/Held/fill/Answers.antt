@@ -1,4 +1,4 @@
-use Rattle.std.proofs.Common.{◌≡◌, ◌≤◌, length, take, drop, slice_range, ap, ◌∙◌, arith}
+use Rattle.std.proofs.Common.{◌≡◌, length, take, drop, slice_range, ap, ◌∙◌, arith}
 use Rattle.mx_http.specs.Window.{Window}
 use Rattle.mx_http.proofs.Windows.{fill_got, fill_none}
 use Rattle.mx_http.proofs.held.Held.fill.Goals as goal
