@@ -92,15 +92,15 @@ whole_is_no_rest front more call x rest =
     let mine = first_head front more call x in
     ⊎_elim (λ (b : IsBlank (front ++ more)). not_blank _ x.head _ mine b)
     (λ (r : IsUnfinished (front ++ more) ⊎ IsFaulty (front ++ more)). ⊎_elim
-        (λ (u : IsUnfinished (front ++ more)). ⊎_elim
-            (λ (o : IsOpenHead (front ++ more)). open_head_fails _ x.head _ mine o)
-            (λ (o : IsOpenBody (front ++ more)). let lacks = open_body_size _ x.head (x.body ++ more) (length x.body) mine x.has_size o in absurd (omega (arith, lacks, length-append x.body more)))
-            u)
-        (λ (f : IsFaulty (front ++ more)). ⊎_elim
-            (λ (b : HasBadHead (front ++ more)). not_bad_head _ x.head _ mine b)
-            (λ (b : HasBadSize (front ++ more)). bad_size_fails _ x.head _ (length x.body) mine x.has_size b)
-            f)
-        r)
+    (λ (u : IsUnfinished (front ++ more)). ⊎_elim
+    (λ (o : IsOpenHead (front ++ more)). open_head_fails _ x.head _ mine o)
+    (λ (o : IsOpenBody (front ++ more)). let lacks = open_body_size _ x.head (x.body ++ more) (length x.body) mine x.has_size o in absurd (omega (arith, lacks, length-append x.body more)))
+    u)
+    (λ (f : IsFaulty (front ++ more)). ⊎_elim
+    (λ (b : HasBadHead (front ++ more)). not_bad_head _ x.head _ mine b)
+    (λ (b : HasBadSize (front ++ more)). bad_size_fails _ x.head _ (length x.body) mine x.has_size b)
+    f)
+    r)
     rest
 
 -- ---- faults
@@ -114,9 +114,9 @@ closed_is_not_open bytes c o = ⊎_elim
 bad_head_shuts : (bytes : List ℕ) → HasBadHead bytes → IsUnfinished bytes ⊎ IsBlank bytes → ⊥
 bad_head_shuts bytes bad other = ⊎_elim
     (λ (u : IsUnfinished bytes). ⊎_elim
-        (λ (o : IsOpenHead bytes). by_end o.short (λ c. closed_is_not_open bytes c o))
-        (λ (o : IsOpenBody bytes). not_bad_head bytes o.head o.rest o.has_head bad)
-        u)
+    (λ (o : IsOpenHead bytes). by_end o.short (λ c. closed_is_not_open bytes c o))
+    (λ (o : IsOpenBody bytes). not_bad_head bytes o.head o.rest o.has_head bad)
+    u)
     (λ (b : IsBlank bytes). by_end b.0 (λ c. c.asks b))
     other
   where
@@ -129,9 +129,9 @@ bad_head_shuts bytes bad other = ⊎_elim
 bad_size_shuts : (bytes : List ℕ) → HasBadSize bytes → IsUnfinished bytes ⊎ IsBlank bytes → ⊥
 bad_size_shuts bytes bad other = ⊎_elim
     (λ (u : IsUnfinished bytes). ⊎_elim
-        (λ (o : IsOpenHead bytes). open_head_fails bytes bad.head bad.rest bad.has_head o)
-        (λ (o : IsOpenBody bytes). bad_size_fails bytes o.head o.rest o.size o.has_head o.has_size bad)
-        u)
+    (λ (o : IsOpenHead bytes). open_head_fails bytes bad.head bad.rest bad.has_head o)
+    (λ (o : IsOpenBody bytes). bad_size_fails bytes o.head o.rest o.size o.has_head o.has_size bad)
+    u)
     (λ (b : IsBlank bytes). not_blank bytes bad.head bad.rest bad.has_head b)
     other
 

@@ -40,6 +40,6 @@ size_over n size (d ∷ digits) some low high is over =
     let total = digits_value_after 10 (n * 10 + digit_value d) digits in
     let later : n * 10 + digit_value d ≤ total = grows (n * 10 + digit_value d) digits in
     none_over _ (nat_le total 1048576) total (⊎_elim
-        (λ (e : nat_le total 1048576 ≡ true). let small : total ≤ 1048576 = leb-true total 1048576 e in absurd (omega arith))
-        (λ (e : nat_le total 1048576 ≡ false). e)
-        (cases_Bool (nat_le total 1048576)))
+    (λ (e : nat_le total 1048576 ≡ true). let small : total ≤ 1048576 = leb-true total 1048576 e in absurd (omega arith))
+    (λ (e : nat_le total 1048576 ≡ false). e)
+    (cases_Bool (nat_le total 1048576)))

@@ -10,5 +10,4 @@ pub fn calls_are_determined()
     ensures unique { (bytes : List ℕ) (calls others : List Call) (rest end : List ℕ) → Splits bytes calls rest → Splits bytes others end → (calls ≡ others) × (rest ≡ end) }
     ensures whole { (front more : List ℕ) (call : Call) → IsCall front call → IsRest (front ++ more) → ⊥ }
     ensures fault { (bytes : List ℕ) → IsFaulty bytes → IsUnfinished bytes ⊎ IsBlank bytes → ⊥ }
-{
-}
+{}

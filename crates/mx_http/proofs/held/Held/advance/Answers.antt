@@ -1,5 +1,4 @@
 use Rattle.std.proofs.Common.{◌-◌, ◌≡◌, length, drop, sym, ap, ◌∙◌, arith}
-
 use Rattle.mx_http.specs.Window.{Window}
 use Rattle.mx_http.proofs.Windows.{advanced, length_part}
 use Rattle.mx_http.proofs.held.Held.advance.Goals as goal
