@@ -1,6 +1,6 @@
 -- The requests that bytes begin with, and how the bytes go on, over the grammar of request heads.
-use Rattle.std.specs.Prelude.{◌≡◌, ℕ, ◌<◌, ◌≤◌, ◌⊎◌, ◌||◌, ◌==◌, List, [], ◌∷◌, ◌++◌, Option, Some, None, length, take, All, IsTrue}
-use Rattle.httparse.specs.Grammar.{RequestHead, IsRequestHead, print_request, ReadsRequest, HasNoRequest, NeverHasRequest, MayBecomeRequest, EndsInTarget}
+use Rattle.std.specs.Prelude.{◌≡◌, ℕ, ◌<◌, ◌≤◌, ◌⊎◌, ◌||◌, ◌==◌, List, [], ◌∷◌, ◌++◌, Some, length, take, All, IsTrue}
+use Rattle.httparse.specs.Grammar.{RequestHead, print_request, ReadsRequest, HasNoRequest, NeverHasRequest, MayBecomeRequest, EndsInTarget}
 use Rattle.mx_http.specs.Fields.{pairs_of, body_size, bearer_of, asks_close}
 use Rattle.mx_http.specs.declared.call.Call.{Call}
 
@@ -68,11 +68,18 @@ pub record IsOpenBody (bytes : List ℕ) : Type 0 where
 abbrev pub IsUnfinished : List ℕ → Type 0
 IsUnfinished bytes = IsOpenHead bytes ⊎ IsOpenBody bytes
 
--- no head stands in the first bytes that it may take, nor may one come there: whatever follows is no head, and
--- they don't end inside a target, or they are as many as a head may have
+-- whatever follows these bytes, no head stands at their front; they don't end inside a target, whose text is judged
+-- at its end, and something other than line ends is there
+pub record IsClosed (bytes : List ℕ) : Type 0 where
+  pub never : NeverHasRequest bytes
+  pub no_target : EndsInTarget bytes → ⊥
+  pub asks : IsBlank bytes → ⊥
+
+-- no head stands in the first bytes that it may take, nor may one come there: whatever follows is no head, or they
+-- are as many as a head may have
 pub record HasBadHead (bytes : List ℕ) : Type 0 where
   pub none : HasNoRequest (take head_limit bytes)
-  pub closed : (NeverHasRequest (take head_limit bytes) × (EndsInTarget (take head_limit bytes) → ⊥)) ⊎ (head_limit ≤ length bytes)
+  pub closed : IsClosed (take head_limit bytes) ⊎ (head_limit ≤ length bytes)
 
 -- a head that is whole, and isn't within the limit of fields or says no size of a body
 pub record HasBadSize (bytes : List ℕ) : Type 0 where
@@ -84,3 +91,14 @@ pub record HasBadSize (bytes : List ℕ) : Type 0 where
 -- no request, whatever follows
 abbrev pub IsFaulty : List ℕ → Type 0
 IsFaulty bytes = HasBadHead bytes ⊎ HasBadSize bytes
+
+-- no request stands at the front of these bytes
+abbrev pub IsRest : List ℕ → Type 0
+IsRest bytes = IsBlank bytes ⊎ (IsUnfinished bytes ⊎ IsFaulty bytes)
+
+-- these bytes are these requests, and then bytes that begin with none
+pub record Splits (bytes : List ℕ) (calls : List Call) (rest : List ℕ) : Type 0 where
+  pub front : List ℕ
+  pub whole : bytes ≡ front ++ rest
+  pub each : AreCalls front calls
+  pub ends : IsRest rest

@@ -1,14 +1,13 @@
 -- What the field lines of a request say: names are compared without regard to ASCII case, and
 -- white space around a value is no part of it (RFC 9110, section 5).
-use Rattle.std.specs.Prelude.{ℕ, ◌+◌, ◌&&◌, ◌||◌, ◌==◌, List, [], ◌∷◌, Bool, Option, Some, None, map, filter, length, drop, nat_lt, nat_le, if◌then◌else◌, codes}
-use Rattle.std.specs.List.{list_all, list_any, starts_with}
+use Rattle.std.specs.Prelude.{ℕ, ◌&&◌, ◌||◌, ◌==◌, List, [], ◌∷◌, Bool, Option, Some, None, map, filter, length, drop, nat_lt, nat_le, if◌then◌else◌, codes}
+use Rattle.std.specs.List.{list_all, list_any, slice_split, starts_with}
 use Rattle.std.specs.Char.{is_ascii_digit}
 use Rattle.std.specs.Str.{bytes_eq, str_to_ascii_lowercase}
 use Rattle.std.specs.Str.Lossy.{utf8_lossy}
 use Rattle.std.specs.Str.Parse.{digits_value}
 use Rattle.std.specs.Prelude.{nat_eq}
 use Rattle.httparse.specs.Grammar.{Field, field_value, trim_ows}
-use Rattle.form_urlencoded.specs.Form.{split}
 
 -- the names and the values of the field lines, in order
 abbrev pub pairs_of : List Field → List (List ℕ × List ℕ)
@@ -47,7 +46,7 @@ bearer_of pairs = bearer_in (values_of (codes "authorization") pairs)
 
 -- one of the elements between the commas is this word
 abbrev pub has_element : List ℕ → List ℕ → Bool
-has_element word value = list_any (λ element. is_word word (trim_ows element)) (split 44 value)
+has_element word value = list_any (λ element. is_word word (trim_ows element)) (slice_split (λ b. b == 44) value)
 
 -- the connection is to end after the answer: HTTP/1.0, or a `Connection` field with the element `close`
 abbrev pub asks_close : ℕ → List (List ℕ × List ℕ) → Bool

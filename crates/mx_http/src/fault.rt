@@ -14,3 +14,14 @@ pub enum HttpFault {
     /// Want of memory.
     Memory,
 }
+
+impl From<Memory> for HttpFault {
+    ghost use Rattle.std.specs.Prelude.{◌≡◌};
+    ghost use Rattle.mx_http.specs.declared.fault.HttpFault.TheVariants as faults;
+
+    ghost from_gives = { λ _ e. e ≡ faults.Memory };
+
+    fn from(_: Memory) -> Self {
+        HttpFault::Memory
+    }
+}

@@ -6,11 +6,24 @@ mod answer;
 mod answer_tests;
 mod call;
 mod fault;
+mod fields;
+mod grammar;
+mod head;
+mod held;
+mod laws;
 mod parameters;
 mod print;
+mod requests;
 mod stage;
+mod start;
+mod target;
+#[cfg(test)]
+mod tests;
 
 pub use answer::{Answer, Body, WriteFault, write_answer};
 pub use call::Call;
 pub use fault::HttpFault;
+pub use laws::calls_are_determined;
 pub use parameters::query;
+pub use requests::Reader;
+pub use start::reader;

@@ -10,8 +10,7 @@ ghost use Rattle.mxsync.specs.Steps.{Answers, Refuses, Turns, moment};
 
 use crate::entry::Entry;
 use crate::respond::respond;
-use crate::stand_in::{Reader, make_reader as reader};
-use mx_http::{Answer, Body, Call, HttpFault, write_answer};
+use mx_http::{Answer, Body, Call, HttpFault, Reader, reader, write_answer};
 use mx_ids::{Seq, Users};
 use mx_outside::{Sink, Source};
 use std::alloc::Global;

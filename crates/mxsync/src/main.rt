@@ -12,7 +12,6 @@ mod entry;
 mod refusal;
 mod respond;
 mod run;
-mod stand_in;
 mod sync_query;
 #[cfg(test)]
 mod tests;

@@ -2,7 +2,7 @@ use Rattle.std.proofs.Common.{ap, ◌∙◌, sym, List, ℕ, subst}
 use Rattle.std.specs.Borrow.{Bor}
 use Rattle.std.specs.List.{flat_map}
 use Rattle.mx_http.specs.Stages.{state_of, Sends}
-use Rattle.mx_http.proofs.Heads.{head_pieces}
+use Rattle.mx_http.proofs.AnswerHeads.{head_pieces}
 use Rattle.mx_http.proofs.answer.put_head.Goals as goal
 
 pub returns : goal.returns
