@@ -1,6 +1,6 @@
 -- What a reader's calls do to what is ahead of it.
 use Rattle.std.proofs.Common.{◌≡◌, ℕ, ◌+◌, ◌-◌, ◌<◌, ◌≤◌, inr, Option, Some, None, Ok, Err, IsErrOf, List, ◌++◌, length, take, drop, slice_range, refl, sym, ap, subst, ◌∙◌, arith, append_assoc, length-append, take-append-drop}
-use Rattle.std.specs.Io.KnownBytes.{prepend_known, Consumes, Keeps}
+use Rattle.std.specs.Io.KnownBytes.{prepend_known, Consumes, Keeps, IsAtEnd}
 use Rattle.std.proofs.lemmas.List.{length-take-le}
 use Rattle.std.proofs.Math.Seq.{take-append-add, drop-append_seam}
 use Rattle.httparse.specs.Grammar.{print_request}
@@ -10,14 +10,8 @@ use Rattle.mx_http.specs.declared.fault.HttpFault.{HttpFault}
 use Rattle.mx_http.specs.declared.fault.HttpFault.TheVariants as faults
 use Rattle.mx_http.specs.Calls.{HasSize, IsCall, IsBlank, IsUnfinished}
 use Rattle.mx_http.specs.Parts.{HasParts, GivesHead, with_body}
-use Rattle.mx_http.specs.Reads.{Ended, Reads}
+use Rattle.mx_http.specs.Reads.{Reads}
 use Rattle.mx_http.proofs.Unique.{HasHead-append, not_blank}
-
--- what was ahead at first is known where what was ahead later is
-pub ended_along : (first mid now : Option (List ℕ)) → Keeps first mid → Ended mid now → Ended first now
-ended_along None mid now p q = tt
-ended_along (Some x) None now p q = absurd p
-ended_along (Some x) (Some y) now p q = q
 
 -- ---- one request
 
@@ -31,8 +25,8 @@ more_parts held more parts x = record {
   says = x.says;
 }
 
-pub given_parts : (first left : Option (List ℕ)) (held : List ℕ) (found : Option Head) (parts : Head) → found ≡ Some parts → GivesHead first held left (Ok found) → HasParts held parts
-given_parts first left held found parts e h = subst (λ o. GivesHead first held left (Ok o)) e h
+pub given_parts : (left : Option (List ℕ)) (held : List ℕ) (found : Option Head) (parts : Head) → found ≡ Some parts → GivesHead held left (Ok found) → HasParts held parts
+given_parts left held found parts e h = subst (λ o. GivesHead held left (Ok o)) e h
 
 pub parts_now : (held now more : List ℕ) (parts : Head) → HasParts held parts → now ≡ held ++ more → HasParts now parts
 parts_now held now more parts x e = subst (λ l. HasParts l parts) (sym e) (more_parts held more parts x)
@@ -52,7 +46,7 @@ body_cut held parts x short = (
 )
 
 pub body_failed : (first new left : Option (List ℕ)) (held : List ℕ) (parts : Head) (e : HttpFault) → Keeps first new → HasParts held parts
-    → (IsErrOf {T = Unit {0}} (Err e) faults.Head → ⊥) → (IsErrOf {T = Unit {0}} (Err e) faults.Cut → (length held < parts.len + parts.size) × Ended first left)
+    → (IsErrOf {T = Unit {0}} (Err e) faults.Head → ⊥) → (IsErrOf {T = Unit {0}} (Err e) faults.Cut → (length held < parts.len + parts.size) × IsAtEnd left)
     → Reads first new held left (Err e)
 body_failed first new left held parts faults.Head p x a b = absurd (a refl)
 body_failed first new left held parts faults.Cut p x a b = let cut = b refl in let short = body_cut held parts x cut.0 in (p, short.0, short.1, cut.1)

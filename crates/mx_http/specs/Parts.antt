@@ -1,5 +1,6 @@
 -- The head of a request as the reader takes it apart.
 use Rattle.std.specs.Prelude.{◌≡◌, ℕ, ◌<◌, ◌⊎◌, ◌||◌, ◌==◌, List, Option, Some, None, Result, Ok, Err, IsTrue, All, length}
+use Rattle.std.specs.Io.KnownBytes.{IsAtEnd}
 use Rattle.httparse.specs.Grammar.{RequestHead, print_request, HasNoRequest, NeverHasRequest, MayBecomeRequest, EndsInTarget}
 use Rattle.httparse.specs.Spans.{IsRequestWithin, IsRequestOf}
 use Rattle.httparse.specs.declared.spans.HeaderSpan.{HeaderSpan}
@@ -9,7 +10,6 @@ use Rattle.mx_http.specs.declared.grammar.Judged.{Judged}
 use Rattle.mx_http.specs.declared.grammar.Judged.TheVariants as judged
 use Rattle.mx_http.specs.declared.fault.HttpFault.{HttpFault}
 use Rattle.mx_http.specs.declared.fault.HttpFault.TheVariants as faults
-use Rattle.mx_http.specs.Reads.{Ended}
 use Rattle.mx_http.specs.Calls.{head_limit, call_of, HasHead, HasSize, IsBlank, IsOpenHead, IsUnfinished, IsFaulty, HasBadSize}
 
 -- each byte is CR or LF
@@ -69,10 +69,10 @@ EndsWith held (Err faults.ReadFault) = ⊥
 EndsWith held (Err faults.Memory) = ⊥
 
 -- a whole head at the front, the end of the source, or a fault
-abbrev pub GivesHead : Option (List ℕ) → List ℕ → Option (List ℕ) → Result (Option Head) HttpFault → Type 0
-GivesHead first held left (Ok (Some parts)) = HasParts held parts
-GivesHead first held left (Ok None) = IsBlank held × Ended first left
-GivesHead first held left (Err faults.Head) = IsFaulty held
-GivesHead first held left (Err faults.Cut) = IsUnfinished held × (IsBlank held → ⊥) × Ended first left
-GivesHead first held left (Err faults.ReadFault) = Unit {0}
-GivesHead first held left (Err faults.Memory) = Unit {0}
+abbrev pub GivesHead : List ℕ → Option (List ℕ) → Result (Option Head) HttpFault → Type 0
+GivesHead held left (Ok (Some parts)) = HasParts held parts
+GivesHead held left (Ok None) = IsBlank held × IsAtEnd left
+GivesHead held left (Err faults.Head) = IsFaulty held
+GivesHead held left (Err faults.Cut) = IsUnfinished held × (IsBlank held → ⊥) × IsAtEnd left
+GivesHead held left (Err faults.ReadFault) = Unit {0}
+GivesHead held left (Err faults.Memory) = Unit {0}

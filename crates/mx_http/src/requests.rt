@@ -1,8 +1,8 @@
 //! The reader of requests.
 ghost use Rattle.std.specs.Prelude.{◌≡◌, ◌↔◌, ◌⊎◌, true, false, ◌<◌, ◌≤◌, ◌++◌, ℕ, List, [], length, drop, slice_range, IfOk, OnOk, OnErr, IsErrOf, IsTrue};
-ghost use Rattle.std.specs.Io.KnownBytes.{prepend_known, Keeps};
+ghost use Rattle.std.specs.Io.KnownBytes.{prepend_known, Keeps, IsAtEnd};
 ghost use Rattle.mx_outside.specs.Causes.{Rose};
-ghost use Rattle.mx_http.specs.Reads.{Ended, Reads};
+ghost use Rattle.mx_http.specs.Reads.{Reads};
 ghost use Rattle.mx_http.specs.Calls.{IsBlank, IsOpenHead};
 ghost use Rattle.mx_http.specs.Parts.{AreLineEnds, EndsWith, FindsHead, GivesHead};
 
@@ -83,7 +83,7 @@ impl Reader {
         source: &mut S,
     ) -> Result<Option<Head>, HttpFault>
         ensures kept { Keeps (prepend_known self.old (S.left source.old)) (prepend_known self.new (S.left source.new)) }
-        ensures gives { GivesHead (prepend_known self.old (S.left source.old)) self.new (S.left source.new) result }
+        ensures gives { GivesHead self.new (S.left source.new) result }
         ensures count { S.faults source.old ≤ S.faults source.new }
         ensures cause { IsErrOf result HttpFault.ReadFault → Rose (S.faults source.old) (S.faults source.new) }
     {
@@ -103,7 +103,7 @@ impl Reader {
         ensures kept { Keeps (prepend_known self.old (S.left source.old)) (prepend_known self.new (S.left source.new)) }
         ensures grown { (more : List ℕ) × (self.new ≡ self.old ++ more) }
         ensures whole { OnOk result (whole ≤ length self.new) }
-        ensures cut { IsErrOf result HttpFault.Cut → (length self.new < whole) × Ended (prepend_known self.old (S.left source.old)) (S.left source.new) }
+        ensures cut { IsErrOf result HttpFault.Cut → (length self.new < whole) × IsAtEnd (S.left source.new) }
         ensures none { IsErrOf result HttpFault.Head → ⊥ }
         ensures count { S.faults source.old ≤ S.faults source.new }
         ensures cause { IsErrOf result HttpFault.ReadFault → Rose (S.faults source.old) (S.faults source.new) }
@@ -122,7 +122,7 @@ impl Reader {
         ensures kept { Keeps (prepend_known self.old (S.left source.old)) (prepend_known self.new (S.left source.new)) }
         ensures grown { (more : List ℕ) × (self.new ≡ self.old ++ more) }
         ensures longer { IfOk result (λ some. some ≡ true → length self.old < length self.new) }
-        ensures ended { IfOk result (λ some. some ≡ false → (self.new ≡ self.old) × Ended (S.left source.old) (S.left source.new)) }
+        ensures ended { IfOk result (λ some. some ≡ false → (self.new ≡ self.old) × IsAtEnd (S.left source.new)) }
         ensures faults { (IsErrOf result HttpFault.Head → ⊥) × (IsErrOf result HttpFault.Cut → ⊥) }
         ensures count { S.faults source.old ≤ S.faults source.new }
         ensures cause { IsErrOf result HttpFault.ReadFault → Rose (S.faults source.old) (S.faults source.new) }
