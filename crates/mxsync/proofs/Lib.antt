@@ -4,3 +4,4 @@ pub mod Queries
 pub mod Paths
 pub mod CommandLine
 pub mod Latest
+pub mod Replies
