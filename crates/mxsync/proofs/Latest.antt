@@ -25,7 +25,7 @@ one_place e es k v Less later = refl
 one_place e es k v Equal later = refl
 one_place e es k v Greater later = ap (λ l. pair_now e ∷ l) later
 
-pub insert-now : (es : List (Bor (List ℕ) × Bor Json)) (k : Bor (List ℕ)) (v : Bor Json)
+pub insert_now : (es : List (Bor (List ℕ) × Bor Json)) (k : Bor (List ℕ)) (v : Bor Json)
     → map pair_now (insert_entry cmp_now es k v) ≡ insert_entry (slice_cmp nat_cmp) (map pair_now es) k.now v.now
-insert-now [] k v = refl
-insert-now (e ∷ es) k v = one_place e es k v (cmp_now k e.0) (insert-now es k v)
+insert_now [] k v = refl
+insert_now (e ∷ es) k v = one_place e es k v (cmp_now k e.0) (insert_now es k v)

@@ -5,4 +5,5 @@ pub mod Latest
 pub mod Outcomes
 pub mod Paths
 pub mod Queries
+pub mod Replies
 pub mod Served

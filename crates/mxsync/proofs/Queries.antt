@@ -1,5 +1,5 @@
 -- Reading the parameters pair by pair gives what the definition says of their list.
-use Rattle.std.proofs.Common.{◌≡◌, ℕ, ◌&&◌, List, [], ◌∷◌, Bool, true, false, not, cond, Option, Some, None, Result, Ok, Err, is_some, is_ok, option_and_then, bytes_eq, filter, unwrap_or, codes, refl, sym, ap, ap₂, ◌∙◌, subst}
+use Rattle.std.proofs.Common.{◌≡◌, ℕ, ◌&&◌, drop, List, [], ◌∷◌, Bool, true, false, not, cond, Option, Some, None, Result, Ok, Err, is_some, is_ok, option_and_then, bytes_eq, filter, unwrap_or, codes, refl, sym, ap, ap₂, ◌∙◌, subst}
 use Rattle.std.proofs.lemmas.Bool.{cases_Bool, true≢false}
 use Rattle.std.proofs.lemmas.Slice.Eq.{bytes_eq-Decides}
 use Rattle.std.specs.Option.{option_or}
@@ -284,3 +284,10 @@ all_new (p ∷ ps) = ap (λ b. cond (not b) (p ∷ filter (is_new nothing) ps) (
 pub pairs_read : (ps : List Pair) → read_from nothing ps ≡ since_of ps
 unfolding since_of
 pairs_read ps = read_after ps nothing ∙ ap (λ l. unless_bad (since_in ps) (first_bad l)) (all_new (firsts ps))
+
+pub all_read : (s : Seen) (ps : List Pair) (i : ℕ) → drop i ps ≡ [] → read_from s (drop i ps) ≡ read_from nothing ps → Ok s.since ≡ since_of ps
+all_read s ps i none h = ap (read_from s) (sym none) ∙ h ∙ pairs_read ps
+
+pub bad_read : (s : Seen) (ps rest : List Pair) (i : ℕ) (p : Pair) (name : Parameter) → drop i ps ≡ p ∷ rest → with_pair s p ≡ Err name
+    → read_from s (drop i ps) ≡ read_from nothing ps → Err name ≡ since_of ps
+bad_read s ps rest i p name here bad h = sym (ap (go_on (λ t. read_from t rest)) bad) ∙ ap (read_from s) (sym here) ∙ h ∙ pairs_read ps

@@ -10,6 +10,7 @@ use std::collections::BTreeMap;
 
 /// A user's data in these entries: under each type the last content, in byte order of types. Each
 /// content that is answered is copied once.
+#[tactic(auto, using(crate::proofs::Latest::insert_now))]
 pub fn data_of(alloc: Global, user: &UserId, entries: &[Entry]) -> Result<Seq<(Text, Json)>, Memory>
     ensures { IfOk result (λ made. made ≡ data_of user.now entries.now) }
 {

@@ -1,5 +1,5 @@
 //! The answer to a call.
-ghost use Rattle.std.specs.Prelude.{◌≡◌, ◌<◌, ◌≤◌, IfOk, IfSome, Ok, drop, length, option_and_then, position, bytes_eq};
+ghost use Rattle.std.specs.Prelude.{◌≡◌, ◌<◌, ◌≤◌, IfNone, IfOk, IfSome, Ok, drop, length, option_and_then, position, bytes_eq};
 ghost use Rattle.mx_ids.specs.Users.{IsUsers};
 ghost use Rattle.mx_http.specs.Queries.{parameters, query_of};
 ghost use Rattle.mxsync.specs.Answers.{ahead_of, answer_to, caller_answered, device_of, is_object, is_own_type, position_of, put_answered, sync_answered, token_at, user_of, value_answered};
@@ -44,7 +44,8 @@ fn answer_caller(alloc: Global, caller: &UserId, entries: &[Entry], call: &Call,
 
 /// The number of the device that has the call's access token.
 fn device_of(users: &Users, call: &Call) -> Option<usize>
-    ensures { result ≡ device_of users.now call.now }
+    ensures number { result ≡ device_of users.now call.now }
+    ensures within { IfSome result (λ device. device < length users.now.devices) }
 {
     match &call.bearer {
         Some(token) => device_with(users.devices.as_slice(), token),
@@ -54,7 +55,8 @@ fn device_of(users: &Users, call: &Call) -> Option<usize>
 
 /// The number of the device that has the token.
 fn device_with(devices: &[Device], token: &Text) -> Option<usize>
-    ensures { result ≡ position (λ d. bytes_eq d.token token.now) devices.now }
+    ensures number { result ≡ position (λ d. bytes_eq d.token token.now) devices.now }
+    ensures within { IfSome result (λ device. device < length devices.now) }
 {
     devices.iter().position(|device| device.token == *token)
 }
@@ -158,14 +160,19 @@ fn token_at(front: u64) -> SyncToken
 
 /// Why a token that a sync is to follow is refused, at a front of the account data.
 fn refusal_of(since: Option<SyncToken>, front: u64) -> Option<Refusal>
-    ensures { result ≡ option_and_then (λ token. ahead_of token front) since }
+    ensures refusal { result ≡ option_and_then (λ token. ahead_of token front) since }
+    ensures within { IfNone result (IfSome since (λ token. token.a ≤ front)) }
 {
-    ahead_of(since?, front)
+    match since {
+        Some(token) => ahead_of(token, front),
+        None => None,
+    }
 }
 
 /// The first component of a token that exceeds its stream's front.
 fn ahead_of(token: SyncToken, front: u64) -> Option<Refusal>
-    ensures { result ≡ ahead_of token front }
+    ensures refusal { result ≡ ahead_of token front }
+    ensures within { IfNone result (token.a ≤ front) }
 {
     if 0 < token.e {
         return Some(Refusal::TokenAhead { asked: token.e, front: 0 });

@@ -9,6 +9,7 @@ use mx_ids::{SyncToken, Text, read_sync_token};
 
 /// The token of `since`; an error is the first parameter that isn't of its form. Of a repeated
 /// parameter the first counts, and unknown ones have no effect (Client-Server API, Syncing).
+#[tactic(auto, using(crate::proofs::Queries::pairs_read))]
 pub fn since_of(pairs: &[(Text, Text)]) -> Result<Option<SyncToken>, Parameter>
     ensures { result ≡ since_of pairs.now }
 {

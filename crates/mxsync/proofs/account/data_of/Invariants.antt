@@ -5,5 +5,5 @@ use Rattle.mxsync.specs.Accounts.{data_of, set_entry}
 
 abbrev pub invariant-entries : goal.invariant-entries
 invariant-entries l =
-    fold set_entry (map pair_now l.latest.entries) (filter (λ e. bytes_eq e.user l.fn.user.now) (drop l.entry-index l.entry-items))
-        ≡ data_of l.fn.user.now l.entry-items
+    fold set_entry (map pair_now l.latest.entries) (filter (λ e. bytes_eq e.user l.fn.user) (drop l.entry-index l.entries))
+        ≡ data_of l.fn.user l.entries
