@@ -6,5 +6,6 @@ mod asked;
 mod connection;
 mod entry;
 mod refusal;
+mod users_file;
 
 fn main(_rt: HostRuntime) {}
