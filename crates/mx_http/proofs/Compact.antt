@@ -1,5 +1,5 @@
 -- The compact text of a value, cut where it is put in pieces.
-use Rattle.std.proofs.Common.{◌≡◌, ℕ, ◌+◌, ◌<◌, ◌≤◌, List, [], ◌∷◌, ◌++◌, Bool, true, false, take, drop, length, get_or, refl, ap, sym, ◌∙◌, append_assoc, append-nil, add-one, arith, cond, nat_lt, subst, ◌/◌, ◌%◌}
+use Rattle.std.proofs.Common.{◌≡◌, ℕ, ◌+◌, ◌<◌, ◌≤◌, List, [], ◌∷◌, ◌++◌, Bool, true, take, drop, length, get_or, refl, ap, sym, ◌∙◌, append_assoc, append-nil, arith, cond, nat_lt, subst, ◌/◌, ◌%◌}
 use Rattle.std.specs.Char.{digit_char}
 use Rattle.std.proofs.lemmas.Bool.{lt-ltb, le-ltb}
 use Rattle.std.proofs.lemmas.List.{take-append-drop, drop-drop, drop_all}
@@ -27,7 +27,7 @@ pub members_left : (later : Bool) (ms : List (Member Json)) (i : ℕ) (m : Membe
 members_left later ms i m below is =
     let rest = json_text m.value ++ object_text true (drop (i + 1) ms) in
     ap (object_text later) (next_item ms i m below is)
-        ∙ sym (append_assoc (comma_if later) (quoted m.key ++ 58 ∷ []) rest ∙ ap (λ l. comma_if later ++ l) (append_assoc (quoted m.key) (58 ∷ []) rest))
+    ∙ sym (append_assoc (comma_if later) (quoted m.key ++ 58 ∷ []) rest ∙ ap (λ l. comma_if later ++ l) (append_assoc (quoted m.key) (58 ∷ []) rest))
 
 pub members_end : (later : Bool) (ms : List (Member Json)) (i : ℕ) → length ms ≤ i → object_text later (drop i ms) ≡ 125 ∷ []
 members_end later ms i past = ap (object_text later) (drop_all i ms past)
@@ -68,7 +68,7 @@ pub escape_control : (b l high low : ℕ) → l ≡ escape_letter b → l ≡ 0 
 unfolding escape_byte
 escape_control b l high low is none control h k =
     not_short (escape_letter b) l _ _ is none ∙ ap (λ t. cond t (92 ∷ 117 ∷ 48 ∷ 48 ∷ digit_char (b / 16) ∷ digit_char (b % 16) ∷ []) (b ∷ [])) (lt-ltb b 32 control)
-        ∙ ap (λ x. 92 ∷ 117 ∷ 48 ∷ 48 ∷ x ∷ digit_char (b % 16) ∷ []) (sym h) ∙ ap (λ x. 92 ∷ 117 ∷ 48 ∷ 48 ∷ high ∷ x ∷ []) (sym k)
+    ∙ ap (λ x. 92 ∷ 117 ∷ 48 ∷ 48 ∷ x ∷ digit_char (b % 16) ∷ []) (sym h) ∙ ap (λ x. 92 ∷ 117 ∷ 48 ∷ 48 ∷ high ∷ x ∷ []) (sym k)
 
 pub escape_none : (b l : ℕ) → l ≡ escape_letter b → l ≡ 0 → 32 ≤ b → escape_byte b ≡ b ∷ []
 unfolding escape_byte

@@ -20,12 +20,12 @@ module _ (n : ℕ) (far : IsStatusCode n → ⊥) where
   pub no_phrase : reason_phrase n ≡ None
   no_phrase =
       step 100 _ _ refl (step 101 _ _ refl (step 102 _ _ refl (step 103 _ _ refl (step 200 _ _ refl (step 201 _ _ refl (step 202 _ _ refl (
-      step 203 _ _ refl (step 204 _ _ refl (step 205 _ _ refl ( step 206 _ _ refl (step 207 _ _ refl (step 208 _ _ refl (step 226 _ _ refl (
-      step 300 _ _ refl (step 301 _ _ refl (step 302 _ _ refl (step 303 _ _ refl (step 304 _ _ refl (step 305 _ _ refl ( step 307 _ _ refl (
+      step 203 _ _ refl (step 204 _ _ refl (step 205 _ _ refl (step 206 _ _ refl (step 207 _ _ refl (step 208 _ _ refl (step 226 _ _ refl (
+      step 300 _ _ refl (step 301 _ _ refl (step 302 _ _ refl (step 303 _ _ refl (step 304 _ _ refl (step 305 _ _ refl (step 307 _ _ refl (
       step 308 _ _ refl (step 400 _ _ refl (step 401 _ _ refl (step 402 _ _ refl (step 403 _ _ refl (step 404 _ _ refl (step 405 _ _ refl (
-      step 406 _ _ refl (step 407 _ _ refl ( step 408 _ _ refl (step 409 _ _ refl (step 410 _ _ refl (step 411 _ _ refl (step 412 _ _ refl (
-      step 413 _ _ refl (step 414 _ _ refl (step 415 _ _ refl (step 416 _ _ refl (step 417 _ _ refl ( step 418 _ _ refl (step 421 _ _ refl (
+      step 406 _ _ refl (step 407 _ _ refl (step 408 _ _ refl (step 409 _ _ refl (step 410 _ _ refl (step 411 _ _ refl (step 412 _ _ refl (
+      step 413 _ _ refl (step 414 _ _ refl (step 415 _ _ refl (step 416 _ _ refl (step 417 _ _ refl (step 418 _ _ refl (step 421 _ _ refl (
       step 422 _ _ refl (step 423 _ _ refl (step 424 _ _ refl (step 425 _ _ refl (step 426 _ _ refl (step 428 _ _ refl (step 429 _ _ refl (
-      step 431 _ _ refl ( step 451 _ _ refl (step 500 _ _ refl (step 501 _ _ refl (step 502 _ _ refl (step 503 _ _ refl (step 504 _ _ refl (
-      step 505 _ _ refl (step 506 _ _ refl (step 507 _ _ refl (step 508 _ _ refl ( step 510 _ _ refl (
+      step 431 _ _ refl (step 451 _ _ refl (step 500 _ _ refl (step 501 _ _ refl (step 502 _ _ refl (step 503 _ _ refl (step 504 _ _ refl (
+      step 505 _ _ refl (step 506 _ _ refl (step 507 _ _ refl (step 508 _ _ refl (step 510 _ _ refl (
       step 511 _ _ refl refl)))))))))))))))))))))))))))))))))))))))))))))))))))))))))))))

@@ -11,11 +11,11 @@ pub query_behind : (xs : List ℕ) (i : ℕ) → i < length xs → ((k : ℕ) �
     → take (length xs - (i + 1)) (drop (i + 1) xs) ≡ query_of xs
 query_behind xs i within before here =
     let first : position_or_len (λ b. eqb b 63) xs ≡ i =
-        position_or_len_is (λ b. eqb b 63) xs i 0 (omega arith) (λ k below. ne_eqb (get_or xs k 0) 63 (before k below)) (λ _. eq-eqb (get_or xs i 0) 63 here) in
+    position_or_len_is (λ b. eqb b 63) xs i 0 (omega arith) (λ k below. ne_eqb (get_or xs k 0) 63 (before k below)) (λ _. eq-eqb (get_or xs i 0) 63 here) in
     take_rest xs (i + 1) ∙ ap (λ n. drop (n + 1) xs) (sym first)
 
 pub no_query : (xs : List ℕ) (i : ℕ) → length xs ≤ i → ((k : ℕ) → k < i → get_or xs k 0 ≡ 63 → ⊥) → [] ≡ query_of xs
 no_query xs i past before =
     let first : position_or_len (λ b. eqb b 63) xs ≡ length xs =
-        position_or_len_is (λ b. eqb b 63) xs (length xs) 0 (omega arith) (λ k below. ne_eqb (get_or xs k 0) 63 (before k (omega arith))) (λ same. absurd (omega arith)) in
+    position_or_len_is (λ b. eqb b 63) xs (length xs) 0 (omega arith) (λ k below. ne_eqb (get_or xs k 0) 63 (before k (omega arith))) (λ same. absurd (omega arith)) in
     sym (ap (λ n. drop (n + 1) xs) first ∙ drop_all (length xs + 1) xs (omega arith))

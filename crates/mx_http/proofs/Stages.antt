@@ -29,7 +29,7 @@ front_of_whole : (s xs ys rest zs o t : List ℕ) (n : ℕ) → s ++ xs ≡ o ++
 front_of_whole s xs ys rest zs o t n first joined =
     let put = t ++ ys in
     let whole : s ++ zs ≡ o ++ (put ++ rest) =
-        ap (λ l. s ++ l) (sym joined) ∙ sym (append_assoc s (xs ++ ys) rest) ∙ ap (λ l. l ++ rest) (shifted s xs ys (xs ++ ys) o t [] put first refl refl ∙ ap (λ l. l ++ put) (append-nil o)) ∙ append_assoc o put rest in
+    ap (λ l. s ++ l) (sym joined) ∙ sym (append_assoc s (xs ++ ys) rest) ∙ ap (λ l. l ++ rest) (shifted s xs ys (xs ++ ys) o t [] put first refl refl ∙ ap (λ l. l ++ put) (append-nil o)) ∙ append_assoc o put rest in
     sym (ap (take (length o + min n (length put))) whole ∙ take-append-add o (put ++ rest) (min n (length put)) ∙ ap (λ l. o ++ l) (take-append-le (min n (length put)) put rest (omega arith) ∙ take_min n put))
 
 pub puts_none : (a : State) → Puts a a []
@@ -106,7 +106,7 @@ pub handed : {T E : Type 0} (a b c : State) (r : Result T E) (bytes : List ℕ) 
     → Sends (record b { stage = [] }) r (record c { stage = [] }) bytes → Sends a r c bytes
 handed a b c r bytes first none none_after last =
     sends_then a b r c [] bytes bytes first
-        (subst (λ (s : State). Sends b r s bytes) (emptied c none_after) (subst (λ (s : State). Sends s r (record c { stage = [] }) bytes) (emptied b none) last)) refl
+    (subst (λ (s : State). Sends b r s bytes) (emptied c none_after) (subst (λ (s : State). Sends s r (record c { stage = [] }) bytes) (emptied b none) last)) refl
 
 -- what the whole did to the sink, where no byte waited before it, and none after it
 pub sends_done : {T E : Type 0} (a : State) (r : Result T E) (c : State) (bytes : List ℕ) → a.stage ≡ [] → OnOk r (c.stage ≡ []) → Sends a r c bytes

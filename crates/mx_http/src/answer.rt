@@ -123,11 +123,7 @@ fn phrase(status: u16) -> &'static str
 fn connection(close: bool) -> &'static [u8]
     ensures { result.now ≡ (if close then line (codes "Connection: close") else []) }
 {
-    if close {
-        b"Connection: close\r\n"
-    } else {
-        b""
-    }
+    if close { b"Connection: close\r\n" } else { b"" }
 }
 
 /// The body, where it is asked for.

@@ -7,7 +7,8 @@ use std::alloc::Global;
 use std::process::Abort;
 use std::test::Fail;
 
-const HEADERS: &str = "Access-Control-Allow-Origin: *\r\nAccess-Control-Allow-Methods: GET, POST, PUT, DELETE, OPTIONS\r\nAccess-Control-Allow-Headers: X-Requested-With, Content-Type, Authorization\r\n";
+const HEADERS: &str =
+    "Access-Control-Allow-Origin: *\r\nAccess-Control-Allow-Methods: GET, POST, PUT, DELETE, OPTIONS\r\nAccess-Control-Allow-Headers: X-Requested-With, Content-Type, Authorization\r\n";
 
 fn json_answer(alloc: Global, status: u16, body: &[u8]) -> Result<Answer, Fail> {
     Ok(Answer {
@@ -17,11 +18,20 @@ fn json_answer(alloc: Global, status: u16, body: &[u8]) -> Result<Answer, Fail> 
 }
 
 /// An answer is written as its status line, its length, the other headers, and what ends it.
-fn expect(rt: &impl Abort, alloc: Global, answer: &Answer, head_only: bool, close: bool, parts: [&str; 3]) -> Result<(), Fail> {
+fn expect(
+    rt: &impl Abort,
+    alloc: Global,
+    answer: &Answer,
+    head_only: bool,
+    close: bool,
+    parts: [&str; 3],
+) -> Result<(), Fail> {
     let mut sink = MemSink::new(alloc, Vec::new(alloc));
     write_answer(&mut sink, answer, head_only, close)?;
     let [status, length, end] = parts;
-    let wanted = format!(in alloc; "HTTP/1.1 {status}\r\nContent-Type: application/json\r\nContent-Length: {length}\r\n{HEADERS}{end}")?;
+    let wanted = format!(in alloc;
+        "HTTP/1.1 {status}\r\nContent-Type: application/json\r\nContent-Length: {length}\r\n{HEADERS}{end}"
+    )?;
     assert_eq!(rt; sink.written(), wanted.as_bytes());
     Ok(())
 }
@@ -29,24 +39,75 @@ fn expect(rt: &impl Abort, alloc: Global, answer: &Answer, head_only: bool, clos
 #[test]
 fn answers_have_their_bytes(rt: HostRuntime) -> Result<(), Fail> {
     let empty = json_answer(rt.alloc(), 200, b"{}")?;
-    expect(&rt, rt.alloc(), &empty, false, false, ["200 OK", "2", "\r\n{}"])?;
-    expect(&rt, rt.alloc(), &empty, true, false, ["200 OK", "2", "\r\n"])?;
-    expect(&rt, rt.alloc(), &empty, false, true, ["200 OK", "2", "Connection: close\r\n\r\n{}"])?;
+    expect(
+        &rt,
+        rt.alloc(),
+        &empty,
+        false,
+        false,
+        ["200 OK", "2", "\r\n{}"],
+    )?;
+    expect(
+        &rt,
+        rt.alloc(),
+        &empty,
+        true,
+        false,
+        ["200 OK", "2", "\r\n"],
+    )?;
+    expect(
+        &rt,
+        rt.alloc(),
+        &empty,
+        false,
+        true,
+        ["200 OK", "2", "Connection: close\r\n\r\n{}"],
+    )?;
     let refusal = br#"{"errcode":"M_UNRECOGNIZED","error":"not found"}"#;
     let refused = json_answer(rt.alloc(), 404, refusal)?;
-    expect(&rt, rt.alloc(), &refused, false, false, ["404 Not Found", "48", "\r\n{\"errcode\":\"M_UNRECOGNIZED\",\"error\":\"not found\"}"])?;
+    expect(
+        &rt,
+        rt.alloc(),
+        &refused,
+        false,
+        false,
+        [
+            "404 Not Found",
+            "48",
+            "\r\n{\"errcode\":\"M_UNRECOGNIZED\",\"error\":\"not found\"}",
+        ],
+    )?;
     let fixed = Answer {
         status: 299,
         body: Body::Fixed(b"[]"),
     };
-    expect(&rt, rt.alloc(), &fixed, false, false, ["299 ", "2", "\r\n[]"])
+    expect(
+        &rt,
+        rt.alloc(),
+        &fixed,
+        false,
+        false,
+        ["299 ", "2", "\r\n[]"],
+    )
 }
 
 #[test]
 fn a_body_is_the_compact_text_of_its_value(rt: HostRuntime) -> Result<(), Fail> {
-    let text = br#"{"a":[null,true,false,-7,0,9007199254740991,[],{}],"b\n\"\\":{"":"\b\f\r\t\u0000\u001f/\u00e9"}}"#;
+    let text =
+        br#"{"a":[null,true,false,-7,0,9007199254740991,[],{}],"b\n\"\\":{"":"\b\f\r\t\u0000\u001f/\u00e9"}}"#;
     let answer = json_answer(rt.alloc(), 200, text)?;
-    expect(&rt, rt.alloc(), &answer, false, false, ["200 OK", "92", "\r\n{\"a\":[null,true,false,-7,0,9007199254740991,[],{}],\"b\\n\\\"\\\\\":{\"\":\"\\b\\f\\r\\t\\u0000\\u001f/é\"}}"])
+    expect(
+        &rt,
+        rt.alloc(),
+        &answer,
+        false,
+        false,
+        [
+            "200 OK",
+            "92",
+            "\r\n{\"a\":[null,true,false,-7,0,9007199254740991,[],{}],\"b\\n\\\"\\\\\":{\"\":\"\\b\\f\\r\\t\\u0000\\u001f/é\"}}",
+        ],
+    )
 }
 
 /// A text of 5,000 bytes between quotes, more than the stage holds.
@@ -67,7 +128,10 @@ fn a_large_body_takes_several_puts(rt: HostRuntime) -> Result<(), Fail> {
     write_answer(&mut whole, &answer, false, false)?;
     assert!(rt; whole.written().ends_with(b"xxx\""));
     let mut cut = MemSink::new(rt.alloc(), Vec::from_slice(rt.alloc(), &[1u64])?);
-    assert_eq!(rt; write_answer(&mut cut, &answer, false, false), Err(WriteFault));
+    assert_eq!(rt;
+        write_answer(&mut cut, &answer, false, false),
+        Err(WriteFault)
+    );
     assert!(rt; cut.written().len() < whole.written().len());
     assert!(rt; whole.written().starts_with(cut.written()));
     Ok(())
@@ -75,9 +139,18 @@ fn a_large_body_takes_several_puts(rt: HostRuntime) -> Result<(), Fail> {
 
 #[test]
 fn a_query_is_decoded_in_order(rt: HostRuntime) -> Result<(), Fail> {
-    let target = Text::from_string(String::from_str(rt.alloc(), "/sync?since=s1_0&a+b=%7B%C3%A9&&x&y=%ff&x=?")?);
+    let target = Text::from_string(String::from_str(
+        rt.alloc(),
+        "/sync?since=s1_0&a+b=%7B%C3%A9&&x&y=%ff&x=?",
+    )?);
     let pairs = query(rt.alloc(), &target)?;
-    let wanted = [("since", "s1_0"), ("a b", "{é"), ("x", ""), ("y", "\u{fffd}"), ("x", "?")];
+    let wanted = [
+        ("since", "s1_0"),
+        ("a b", "{é"),
+        ("x", ""),
+        ("y", "\u{fffd}"),
+        ("x", "?"),
+    ];
     assert_eq!(rt; pairs.len(), wanted.len());
     for ((name, value), (want_name, want_value)) in pairs.as_slice().iter().zip(wanted.iter()) {
         assert!(rt; name.as_str() == *want_name);

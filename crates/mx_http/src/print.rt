@@ -36,11 +36,7 @@ pub(crate) fn put_json<K: Sink>(
 
 /// Puts a list: each item but the first after a comma.
 #[cycle(put_json)]
-fn put_list<K: Sink>(
-    sink: &mut K,
-    stage: &mut Stage,
-    items: &Seq<Json>,
-) -> Result<(), WriteFault>
+fn put_list<K: Sink>(sink: &mut K, stage: &mut Stage, items: &Seq<Json>) -> Result<(), WriteFault>
     ensures { Sends (state_of K.written K.faults sink.old stage.old) result (state_of K.written K.faults sink.new stage.new) (91 ∷ list_text false items.now) }
 {
     put(sink, stage, b"[")?;
@@ -161,7 +157,18 @@ fn put_escaped<K: Sink>(sink: &mut K, stage: &mut Stage, byte: u8) -> Result<(),
     ensures { Sends (state_of K.written K.faults sink.old stage.old) result (state_of K.written K.faults sink.new stage.new) (escape_byte byte) }
 {
     match escape_letter(byte) {
-        0 if byte < 32 => put(sink, stage, &[b'\\', b'u', b'0', b'0', hex_digit(byte / 16), hex_digit(byte % 16)]),
+        0 if byte < 32 => put(
+            sink,
+            stage,
+            &[
+                b'\\',
+                b'u',
+                b'0',
+                b'0',
+                hex_digit(byte / 16),
+                hex_digit(byte % 16),
+            ],
+        ),
         0 => put(sink, stage, &[byte]),
         letter => put(sink, stage, &[b'\\', letter]),
     }

@@ -69,11 +69,7 @@ impl Stage {
 }
 
 /// Puts bytes behind those that wait. What finds no room makes those go to the sink first.
-pub(crate) fn put<K: Sink>(
-    sink: &mut K,
-    stage: &mut Stage,
-    bytes: &[u8],
-) -> Result<(), WriteFault>
+pub(crate) fn put<K: Sink>(sink: &mut K, stage: &mut Stage, bytes: &[u8]) -> Result<(), WriteFault>
     ensures { Sends (state_of K.written K.faults sink.old stage.old) result (state_of K.written K.faults sink.new stage.new) bytes.now }
 {
     if bytes.len() <= stage.room() {

@@ -1,4 +1,4 @@
-use Rattle.std.proofs.Common.{[], ◌++◌, ap, sym, refl, append-nil, if◌then◌else◌, ℕ}
+use Rattle.std.proofs.Common.{[], ◌++◌, ap, sym, append-nil, if◌then◌else◌, ℕ}
 use Rattle.std.proofs.lemmas.Result.{err_from_is_err_and}
 use Rattle.mx_http.specs.Stages.{state_of}
 use Rattle.mx_http.specs.Answers.{response_bytes, head_bytes, body_text}

@@ -1,4 +1,4 @@
-use Rattle.std.proofs.Common.{◌≡◌, ◌+◌, ◌∷◌, ◌++◌, [], true, false, drop, ap, sym, ◌∙◌, refl, ℕ, List}
+use Rattle.std.proofs.Common.{◌+◌, ◌∷◌, ◌++◌, [], true, false, drop, ap, sym, ◌∙◌, refl, ℕ, List}
 use Rattle.std.proofs.lemmas.Result.{err_from_is_err_and}
 use Rattle.mx_json.specs.Texts.{json_text, list_text, object_text}
 use Rattle.mx_json.specs.declared.members.Member.{Member}
@@ -6,7 +6,7 @@ use Rattle.mx_json.specs.declared.value.Json.{Json}
 use Rattle.mx_json.proofs.Texts.{text-List, text-Object}
 use Rattle.mx_http.specs.Stages.{state_of}
 use Rattle.mx_http.proofs.Compact.{items_left, items_end, key_text, members_left, members_end}
-use Rattle.mx_http.proofs.Stages.{stops_early, leaves_all, leaves_same, leaves_less, leaves_stop, leaves_last}
+use Rattle.mx_http.proofs.Stages.{stops_early, leaves_same, leaves_less, leaves_stop, leaves_last}
 use Rattle.mx_http.proofs.print.+put_json.Goals as goal
 
 pub put_json-returns-in-List : goal.put_json-returns-in-List

@@ -1,12 +1,11 @@
-use Rattle.std.proofs.Common.{◌≡◌, ◌<◌, arith}
-use Rattle.json.specs.Print.{escape_byte}
+use Rattle.std.proofs.Common.{◌<◌, arith}
 use Rattle.mx_http.proofs.Compact.{escape_short, escape_control, escape_none}
 use Rattle.mx_http.proofs.print.put_escaped.Goals as goal
 
 pub returns-in-0 : goal.returns-in-0
 returns-in-0 g c =
     let text = escape_control c.args.byte c.escape_letter.result c.hex_digit.result c.hex_digit-in-0.result c.escape_letter.ensures c.in-0.is c.if-byte-lt32.true
-        c.hex_digit.ensures c.hex_digit-in-0.ensures in
+    c.hex_digit.ensures c.hex_digit-in-0.ensures in
     rw text c.put.ensures
 
 pub returns-in-0-2 : goal.returns-in-0-2

@@ -1,4 +1,4 @@
-use Rattle.std.proofs.Common.{◌≡◌, ◌+◌, ◌-◌, ◌++◌, [], ap, sym, ◌∙◌, take, drop, length, append-nil, arith, ℕ, List}
+use Rattle.std.proofs.Common.{◌+◌, ◌-◌, ◌++◌, [], ap, sym, ◌∙◌, take, drop, length, append-nil, arith, ℕ, List}
 use Rattle.std.proofs.lemmas.List.{take_rest}
 use Rattle.std.proofs.lemmas.Result.{err_from_is_err_and}
 use Rattle.json.specs.Print.{escape}
@@ -25,7 +25,7 @@ returns-in_err-done g c =
     let failed = err_from_is_err_and c.from_residual.result c.from_residual.ensures.1 in
     let bytes = c.args.bytes.now in
     rw failed.1 (leaves_stop _ _ _ _ _ [] _ c.runs.invariant.left c.in_err-done.ensures.bytes
-        (ap escape (sym (take_rest bytes c.runs.done)) ∙ sym (append-nil (escape (take (length bytes - c.runs.done) (drop c.runs.done bytes))))))
+    (ap escape (sym (take_rest bytes c.runs.done)) ∙ sym (append-nil (escape (take (length bytes - c.runs.done) (drop c.runs.done bytes))))))
 
 pub returns : goal.returns
 returns g c = leaves_none _ _ _ _ c.runs.invariant.left (runs_end c.runs.done c.args.bytes.now (omega arith))

@@ -12,6 +12,6 @@ returns-in_err-flush g c =
 pub returns : goal.returns
 returns g c =
     handed (state_of g.K.Sink.written g.K.Sink.faults c.args.sink.now c.args.stage.now)
-        (state_of g.K.Sink.written g.K.Sink.faults c.flush.new.sink c.flush.new.stage)
-        (state_of g.K.Sink.written g.K.Sink.faults c.hand_on.new.sink c.flush.new.stage) c.hand_on.result c.args.bytes.now
-        c.in_ok-flush.ensures.bytes c.in_ok-flush.ensures.empty c.in_ok-flush.ensures.empty c.hand_on.ensures
+    (state_of g.K.Sink.written g.K.Sink.faults c.flush.new.sink c.flush.new.stage)
+    (state_of g.K.Sink.written g.K.Sink.faults c.hand_on.new.sink c.flush.new.stage) c.hand_on.result c.args.bytes.now
+    c.in_ok-flush.ensures.bytes c.in_ok-flush.ensures.empty c.in_ok-flush.ensures.empty c.hand_on.ensures

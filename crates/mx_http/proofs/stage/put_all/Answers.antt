@@ -1,4 +1,4 @@
-use Rattle.std.proofs.Common.{◌+◌, sym, refl}
+use Rattle.std.proofs.Common.{◌+◌}
 use Rattle.std.proofs.lemmas.Result.{err_from_is_err_and}
 use Rattle.mx_http.proofs.Pieces.{bytes_from, pieces_left}
 use Rattle.mx_http.proofs.Stages.{leaves_less, leaves_stop}
