@@ -1,12 +1,12 @@
 -- A map of references to types and contents, seen as account data.
-use Rattle.std.proofs.Common.{◌≡◌, ℕ, List, [], ◌∷◌, map, Ordering, Less, Equal, Greater, nat_cmp, Bor, refl, ap}
+use Rattle.std.proofs.Common.{◌≡◌, ℕ, List, [], ◌∷◌, Bool, true, false, cond, filter, fold, map, Ordering, Less, Equal, Greater, nat_cmp, Bor, refl, ap, ◌∙◌}
 use Rattle.std.specs.BTreeMap.{insert_entry}
 use Rattle.std.specs.Cmp.Lexicographic.{slice_cmp}
 use Rattle.std.specs.Ordering.{match_ordering}
 use Rattle.mx_json.specs.declared.value.Json.{Json}
-
-abbrev pub pair_now : Bor (List ℕ) × Bor Json → List ℕ × Json
-pair_now p = (p.0.now, p.1.now)
+use Rattle.std.specs.Str.{bytes_eq}
+use Rattle.mxsync.specs.declared.entry.Entry.{Entry}
+use Rattle.mxsync.specs.Accounts.{pair_now, set_entry}
 
 abbrev cmp_now : Bor (List ℕ) → Bor (List ℕ) → Ordering
 cmp_now x y = slice_cmp nat_cmp x.now y.now
@@ -29,3 +29,14 @@ pub insert_now : (es : List (Bor (List ℕ) × Bor Json)) (k : Bor (List ℕ)) (
     → map pair_now (insert_entry cmp_now es k v) ≡ insert_entry (slice_cmp nat_cmp) (map pair_now es) k.now v.now
 insert_now [] k v = refl
 insert_now (e ∷ es) k v = one_place e es k v (cmp_now k e.0) (insert_now es k v)
+
+-- the entries from one on, which is taken first where it is the user's
+pub one_entry : (user : List ℕ) (known made : List (List ℕ × Json)) (e : Entry) (es : List Entry)
+    → made ≡ cond (bytes_eq e.user user) (set_entry known e) known
+    → fold set_entry made (filter (λ x. bytes_eq x.user user) es) ≡ fold set_entry known (filter (λ x. bytes_eq x.user user) (e ∷ es))
+one_entry user known made e es is = ap (λ m. fold set_entry m (filter (λ x. bytes_eq x.user user) es)) is ∙ chosen (bytes_eq e.user user)
+  where
+    chosen : (b : Bool) → fold set_entry (cond b (set_entry known e) known) (filter (λ x. bytes_eq x.user user) es)
+        ≡ fold set_entry known (cond b (e ∷ filter (λ x. bytes_eq x.user user) es) (filter (λ x. bytes_eq x.user user) es))
+    chosen true = refl
+    chosen false = refl

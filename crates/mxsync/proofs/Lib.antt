@@ -9,4 +9,5 @@ pub mod Paths
 pub mod Queries
 pub mod Replies
 pub mod Served
+pub mod Tokens
 pub mod Valid

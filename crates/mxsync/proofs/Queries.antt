@@ -1,17 +1,15 @@
 -- Reading the parameters pair by pair gives what the definition says of their list.
-use Rattle.std.proofs.Common.{◌≡◌, ℕ, ◌&&◌, drop, List, [], ◌∷◌, Bool, true, false, not, cond, Option, Some, None, Result, Ok, Err, is_some, is_ok, option_and_then, bytes_eq, filter, unwrap_or, codes, refl, sym, ap, ap₂, ◌∙◌, subst}
+use Rattle.std.proofs.Common.{◌≡◌, ℕ, ◌&&◌, drop, List, [], ◌∷◌, Bool, true, false, not, cond, Option, Some, None, Result, Ok, Err, is_some, option_and_then, bytes_eq, filter, unwrap_or, codes, refl, sym, ap, ap₂, ◌∙◌, subst}
 use Rattle.std.proofs.lemmas.Bool.{cases_Bool, true≢false}
 use Rattle.std.proofs.lemmas.Slice.Eq.{bytes_eq-Decides}
 use Rattle.std.specs.Option.{option_or}
-use Rattle.std.specs.Result.{result_ok}
 use mathlib.Core.Logic.{⊎_elim}
-use Rattle.mx_ids.specs.Sync.{read_token}
 use Rattle.mx_ids.specs.declared.sync_token.SyncToken.{SyncToken}
 use Rattle.mxsync.specs.declared.refusal.Parameter.{Parameter}
 use Rattle.mxsync.specs.declared.refusal.Parameter.TheVariants as parameter
 use Rattle.mxsync.specs.declared.sync_query.Seen.{Seen}
 use Rattle.mxsync.specs.Parameters.{is_seen, with_value, with_parameter, with_pair}
-use Rattle.mxsync.specs.Queries.{bad_in, first_bad, firsts, is_of_form, parameter_of, since_in, since_of, unless_bad, value_of}
+use Rattle.mxsync.specs.Queries.{bad_in, first_bad, firsts, is_of_form, parameter_of, since_in, since_of, token_of, unless_bad, value_of}
 use Rattle.mxsync.specs.Refusals.{parameter_name}
 use Rattle.mxsync.proofs.Contents.{or_none}
 
@@ -69,12 +67,8 @@ has_name name n =
 
 -- ---- one more parameter
 
-some_of : {A E : Type 0} (r : Result A E) → is_ok r ≡ true → is_some (result_ok r) ≡ true
-some_of (Ok x) h = refl
-some_of (Err e) h = cc
-
 seen_then : (s : Seen) (n : Parameter) (v : List ℕ) → is_of_form n v ≡ true → is_seen (with_value s n v) n ≡ true
-seen_then s parameter.Since v h = some_of (read_token v) h
+seen_then s parameter.Since v h = h
 seen_then s parameter.FullState v h = refl
 seen_then s parameter.Timeout v h = refl
 seen_then s parameter.Filter v h = cc
@@ -169,11 +163,11 @@ after_new s p n e form q =
 -- ---- the token of `since`
 
 since_passed : (p : Pair) (ps : List Pair) → bytes_eq p.0 (codes "since") ≡ false → since_in (p ∷ ps) ≡ since_in ps
-since_passed p ps h = ap (λ b. option_and_then (λ value. result_ok (read_token value)) (cond b (Some p.1) (value_of (codes "since") ps))) h
+since_passed p ps h = ap (λ b. option_and_then token_of (cond b (Some p.1) (value_of (codes "since") ps))) h
 
-since_here : (p : Pair) (ps : List Pair) → parameter_of p.0 ≡ Some parameter.Since → since_in (p ∷ ps) ≡ result_ok (read_token p.1)
+since_here : (p : Pair) (ps : List Pair) → parameter_of p.0 ≡ Some parameter.Since → since_in (p ∷ ps) ≡ token_of p.1
 since_here p ps e =
-    ap (λ b. option_and_then (λ value. result_ok (read_token value)) (cond b (Some p.1) (value_of (codes "since") ps)))
+    ap (λ b. option_and_then token_of (cond b (Some p.1) (value_of (codes "since") ps)))
     ((bytes_eq-Decides p.0 (codes "since")).1 (has_name p.0 parameter.Since e))
 
 some_first : {A : Type 0} (o a b : Option A) → is_some o ≡ true → option_or o a ≡ option_or o b
@@ -198,7 +192,7 @@ since_of_repeated s p ps parameter.Filter e h = cc
 since_of_new : (s : Seen) (p : Pair) (ps : List Pair) (n : Parameter) → parameter_of p.0 ≡ Some n → is_seen s n ≡ false → is_of_form n p.1 ≡ true
     → option_or (with_value s n p.1).since (since_in ps) ≡ option_or s.since (since_in (p ∷ ps))
 since_of_new s p ps parameter.Since e h form =
-    or_same (result_ok (read_token p.1)) (since_in ps) (some_of (read_token p.1) form) ∙ sym (since_here p ps e) ∙ sym (none_first s.since (since_in (p ∷ ps)) h)
+    or_same (token_of p.1) (since_in ps) form ∙ sym (since_here p ps e) ∙ sym (none_first s.since (since_in (p ∷ ps)) h)
 since_of_new s p ps parameter.FullState e h form = ap (option_or s.since) (sym (since_passed p ps (since_name p.0 _ e (λ f. cc))))
 since_of_new s p ps parameter.Timeout e h form = ap (option_or s.since) (sym (since_passed p ps (since_name p.0 _ e (λ f. cc))))
 since_of_new s p ps parameter.Filter e h form = cc

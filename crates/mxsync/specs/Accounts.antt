@@ -4,8 +4,13 @@ use Rattle.std.specs.Str.{bytes_eq}
 use Rattle.std.specs.Ordering.{nat_cmp}
 use Rattle.std.specs.Cmp.Lexicographic.{slice_cmp}
 use Rattle.std.specs.BTreeMap.{insert_entry}
+use Rattle.std.specs.Borrow.{Bor}
 use Rattle.mx_json.specs.declared.value.Json.{Json}
 use Rattle.mxsync.specs.declared.entry.Entry.{Entry}
+
+-- a type and its content, behind references
+abbrev pub pair_now : Bor (List ℕ) × Bor Json → List ℕ × Json
+pair_now p = (p.0.now, p.1.now)
 
 -- the data with one type set
 abbrev pub set_entry : List (List ℕ × Json) → Entry → List (List ℕ × Json)

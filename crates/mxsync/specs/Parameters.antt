@@ -1,13 +1,10 @@
 -- The parameters of a sync, one pair after the other.
 use Rattle.std.specs.Prelude.{ℕ, List, [], ◌∷◌, Bool, true, false, Option, Some, None, Result, Ok, Err, if◌then◌else◌}
 use Rattle.std.specs.Option.{is_some}
-use Rattle.std.specs.Result.{result_ok}
-use Rattle.mx_ids.specs.Sync.{read_token}
-use Rattle.mx_ids.specs.declared.sync_token.SyncToken.{SyncToken}
 use Rattle.mxsync.specs.declared.refusal.Parameter.{Parameter}
 use Rattle.mxsync.specs.declared.refusal.Parameter.TheVariants as parameter
 use Rattle.mxsync.specs.declared.sync_query.Seen.{Seen}
-use Rattle.mxsync.specs.Queries.{parameter_of, is_of_form}
+use Rattle.mxsync.specs.Queries.{parameter_of, is_of_form, token_of}
 
 -- the parameter came
 abbrev pub is_seen : Seen → Parameter → Bool
@@ -18,7 +15,7 @@ is_seen s parameter.Filter = false
 
 -- the same with a parameter, whose value is of its form
 abbrev pub with_value : Seen → Parameter → List ℕ → Seen
-with_value s parameter.Since value = record { since = result_ok (read_token value); full_state = s.full_state; timeout = s.timeout }
+with_value s parameter.Since value = record { since = token_of value; full_state = s.full_state; timeout = s.timeout }
 with_value s parameter.FullState value = record { since = s.since; full_state = true; timeout = s.timeout }
 with_value s parameter.Timeout value = record { since = s.since; full_state = s.full_state; timeout = true }
 with_value s parameter.Filter value = s

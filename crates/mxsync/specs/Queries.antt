@@ -1,10 +1,10 @@
 -- The parameters of a sync. Of a repeated parameter the first counts, and unknown ones have no effect.
-use Rattle.std.specs.Prelude.{ℕ, ◌&&◌, ◌||◌, ◌==◌, List, [], ◌∷◌, Bool, true, false, not, Option, Some, None, Result, Ok, Err, option_and_then, length, filter, find, nat_lt, if◌then◌else◌, codes, is_ok}
+use Rattle.std.specs.Prelude.{ℕ, ◌-◌, ◌^◌, ◌&&◌, ◌||◌, ◌==◌, List, [], ◌∷◌, Bool, true, false, not, Option, Some, None, Result, Ok, Err, option_and_then, length, filter, find, nat_lt, if◌then◌else◌, codes}
 use Rattle.std.specs.List.{list_all}
-use Rattle.std.specs.Option.{option_or}
+use Rattle.std.specs.Option.{is_some, option_or}
 use Rattle.std.specs.Result.{result_ok}
 use Rattle.std.specs.Str.{bytes_eq}
-use Rattle.mx_ids.specs.Sync.{read_token}
+use Rattle.mx_ids.specs.Sync.{judged, sync_token_at}
 use Rattle.mx_ids.specs.declared.sync_token.SyncToken.{SyncToken}
 use Rattle.mxsync.specs.declared.refusal.Parameter.{Parameter}
 use Rattle.mxsync.specs.declared.refusal.Parameter.TheVariants as parameter
@@ -22,9 +22,13 @@ parameter_of name =
 abbrev pub is_zero : List ℕ → Bool
 is_zero value = nat_lt 0 (length value) && list_all (λ b. b == 48) value
 
+-- the token that a text is read as, where it is one
+unfoldable pub token_of : List ℕ → Option SyncToken
+token_of text = result_ok (judged (sync_token_at (2 ^ 64 - 1) text))
+
 -- the value is of the form of the parameter; no filter is, yet, and no timeout but 0
 abbrev pub is_of_form : Parameter → List ℕ → Bool
-is_of_form parameter.Since value = is_ok (read_token value)
+is_of_form parameter.Since value = is_some (token_of value)
 is_of_form parameter.FullState value = bytes_eq value (codes "true") || bytes_eq value (codes "false")
 is_of_form parameter.Timeout value = is_zero value
 is_of_form parameter.Filter value = false
@@ -50,7 +54,7 @@ value_of name (p ∷ ps) = if bytes_eq p.0 name then Some p.1 else value_of name
 
 -- the token of `since`
 abbrev pub since_in : List (List ℕ × List ℕ) → Option SyncToken
-since_in pairs = option_and_then (λ value. result_ok (read_token value)) (value_of (codes "since") pairs)
+since_in pairs = option_and_then token_of (value_of (codes "since") pairs)
 
 -- what the parameters ask, unless one is bad
 abbrev pub unless_bad : Option SyncToken → Option Parameter → Result (Option SyncToken) Parameter

@@ -1,7 +1,7 @@
 //! The parameters of a sync.
 ghost use Rattle.std.specs.Prelude.{◌≡◌, ◌==◌};
 ghost use Rattle.std.specs.List.{list_all};
-ghost use Rattle.mxsync.specs.Queries.{is_of_form, is_zero, parameter_of, since_of};
+ghost use Rattle.mxsync.specs.Queries.{is_of_form, is_zero, parameter_of, since_of, token_of};
 ghost use Rattle.mxsync.specs.Parameters.{is_seen, with_value, with_pair};
 
 use crate::refusal::Parameter;
@@ -51,7 +51,7 @@ impl Seen {
     {
         match parameter {
             Parameter::Since => Seen {
-                since: read_sync_token(value).ok(),
+                since: token_of(value),
                 ..self
             },
             Parameter::FullState => Seen {
@@ -85,6 +85,16 @@ impl Seen {
     }
 }
 
+/// The token that a text is read as, where it is one.
+fn token_of(text: &str) -> Option<SyncToken>
+    ensures { result ≡ token_of text.now }
+{
+    match read_sync_token(text) {
+        Ok(token) => Some(token),
+        Err(_) => None,
+    }
+}
+
 /// The parameter of a name.
 fn parameter_of(name: &str) -> Option<Parameter>
     ensures { result ≡ parameter_of name.now }
@@ -103,7 +113,7 @@ fn is_of_form(parameter: Parameter, value: &str) -> bool
     ensures { result ≡ is_of_form parameter value.now }
 {
     match parameter {
-        Parameter::Since => read_sync_token(value).is_ok(),
+        Parameter::Since => token_of(value).is_some(),
         Parameter::FullState => value == "true" || value == "false",
         Parameter::Timeout => is_zero(value.as_bytes()),
         Parameter::Filter => false,

@@ -1,7 +1,6 @@
 use Rattle.std.proofs.Common.{◌≡◌, bytes_eq, drop, filter, fold, map}
 use Rattle.mxsync.proofs.account.data_of.Given as goal
-use Rattle.mxsync.proofs.Latest.{pair_now}
-use Rattle.mxsync.specs.Accounts.{data_of, set_entry}
+use Rattle.mxsync.specs.Accounts.{data_of, pair_now, set_entry}
 
 abbrev pub invariant-entries : goal.invariant-entries
 invariant-entries l =
