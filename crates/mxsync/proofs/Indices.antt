@@ -1,5 +1,5 @@
 -- What the indices of a list find once a user or a device is added.
-use Rattle.std.proofs.Common.{◌≡◌, ℕ, ◌+◌, ◌<◌, ◌≤◌, Bool, true, false, cond, not, ◌&&◌, ◌||◌, ◌==◌, List, [], ◌∷◌, ◌++◌, length, refl, sym, ap, ap₂, subst, ◌∙◌, arith, Option, None, Some, BTreeMap, BTreeSet, nat_cmp, is_eq, Ordering, ltb, true≢false}
+use Rattle.std.proofs.Common.{◌≡◌, ℕ, ◌≤◌, Bool, true, false, cond, not, ◌&&◌, ◌||◌, ◌==◌, List, [], ◌∷◌, ◌++◌, length, refl, sym, ap, ap₂, subst, ◌∙◌, arith, None, Some, BTreeMap, BTreeSet, nat_cmp, is_eq, Ordering, ltb, true≢false}
 use Rattle.std.proofs.lemmas.Bool.{cases_Bool, cond-true, cond-false}
 use Rattle.std.proofs.lemmas.Bool.Decides.{nat_tests}
 use Rattle.std.proofs.lemmas.Grind.{common_steps}
@@ -7,12 +7,13 @@ use Rattle.std.proofs.lemmas.List.{length_push}
 use Rattle.std.proofs.lemmas.List.Folds.{list_any-append, position_or_len_push}
 use Rattle.std.proofs.lemmas.List.Sums.{prefix_len-le-length}
 use Rattle.std.proofs.lemmas.Map.Text.{is_eq-slice_cmp}
+use Rattle.std.proofs.lemmas.Option.{cond_some, none-some}
 use Rattle.std.proofs.lemmas.Slice.Eq.{bytes_eq-Decides}
 use Rattle.std.specs.BTreeMap as tree
 use Rattle.std.specs.BTreeSet as sorted
 use Rattle.std.specs.Cmp.{tied_then, unsigned_tied}
 use Rattle.std.specs.Cmp.Lexicographic.{slice_cmp}
-use Rattle.std.specs.List.{list_any, position, position_or_len}
+use Rattle.std.specs.List.{list_any, position}
 use Rattle.std.specs.Ordering.{ordering_then}
 use Rattle.std.specs.Str.{bytes_eq}
 use mathlib.Core.Logic.{⊎_elim}
@@ -75,3 +76,27 @@ numbered_push m n us id none h old q =
   where
     apart : bytes_eq id q ≡ false → bytes_eq q id ≡ false
     apart miss = ⊎_elim (λ hit. absurd (true≢false (sym ((bytes_eq-Decides id q).1 (sym ((bytes_eq-Decides q id).0 hit))) ∙ miss))) (λ e. e) (cases_Bool (bytes_eq q id))
+
+-- ---- the same where the equations of a call stand apart
+
+pub named_after : (s n : BTreeSet (ℕ × List ℕ)) (ds es : List Device) (d : Device) (key : List ℕ) → key ≡ d.name → es ≡ ds ++ d ∷ [] → sorted.Updates name_cmp s n (d.user, key) true
+    → ((u : ℕ) (m : List ℕ) → sorted.contains name_cmp s (u, m) ≡ has_name ds u m) → (u : ℕ) (m : List ℕ) → sorted.contains name_cmp n (u, m) ≡ has_name es u m
+named_after s n ds es d key k e h old u m = named_push s n ds d (subst (λ x. sorted.Updates name_cmp s n (d.user, x) true) k h) old u m ∙ ap (λ l. has_name l u m) (sym e)
+
+pub tokened_after : (s n : BTreeSet (List ℕ)) (ds es : List Device) (d : Device) (key : List ℕ) → key ≡ d.token → es ≡ ds ++ d ∷ [] → sorted.Updates (slice_cmp nat_cmp) s n key true
+    → ((q : List ℕ) → sorted.contains (slice_cmp nat_cmp) s q ≡ has_token ds q) → (q : List ℕ) → sorted.contains (slice_cmp nat_cmp) n q ≡ has_token es q
+tokened_after s n ds es d key k e h old q = tokened_push s n ds d (subst (λ x. sorted.Updates (slice_cmp nat_cmp) s n x true) k h) old q ∙ ap (λ l. has_token l q) (sym e)
+
+pub numbered_after : (m n : BTreeMap (List ℕ) ℕ) (us vs : List (List ℕ)) (id key : List ℕ) (number : ℕ) → ltb (number_of us id) (length us) ≡ false → key ≡ id → number ≡ length us → vs ≡ us ++ id ∷ []
+    → tree.Updates (slice_cmp nat_cmp) m n key (Some number) → ((q : List ℕ) → tree.get (slice_cmp nat_cmp) m q ≡ position (bytes_eq q) us) → (q : List ℕ) → tree.get (slice_cmp nat_cmp) n q ≡ position (bytes_eq q) vs
+numbered_after m n us vs id key number none k l e h old q =
+    let at_id = subst (λ x. tree.Updates (slice_cmp nat_cmp) m n x (Some number)) k h in
+    numbered_push m n us id none (subst (λ x. tree.Updates (slice_cmp nat_cmp) m n id (Some x)) l at_id) old q ∙ ap (λ us. position (bytes_eq q) us) (sym e)
+
+-- what the index finds is the user's number
+pub found_at : (us : List (List ℕ)) (id : List ℕ) (n : ℕ) → Some n ≡ position (bytes_eq id) us → n ≡ number_of us id
+found_at us id n e = sym (cond_some (ltb (number_of us id) (length us)) (number_of us id) n (sym e)).1
+
+-- where it finds none, the user is absent
+pub absent_at : (us : List (List ℕ)) (id : List ℕ) → None ≡ position (bytes_eq id) us → ltb (number_of us id) (length us) ≡ false
+absent_at us id e = ⊎_elim (λ there. absurd (none-some (number_of us id) (e ∙ cond-true _ _ _ there))) (λ none. none) (cases_Bool (ltb (number_of us id) (length us)))

@@ -1,22 +1,25 @@
 -- What a users file gives are users of one server, each once, with each device name of a user and each token once.
-use Rattle.std.proofs.Common.{◌≡◌, ◌≢◌, ℕ, ◌+◌, ◌<◌, ◌≤◌, Bool, true, false, cond, not, ◌&&◌, ◌||◌, ◌==◌, List, [], ◌∷◌, ◌++◌, length, get_or, refl, sym, ap, subst, ◌∙◌, arith, Option, None, Some, ltb, ltb-true, ltb-false, leb, leb-true, eq-eqb, true≢false}
-use Rattle.std.proofs.lemmas.Bool.{cases_Bool, and_parts, and_from, or_cases, cond-false, cond-true}
+use Rattle.std.proofs.Common.{◌≡◌, ◌≢◌, ℕ, ◌<◌, ◌≤◌, Bool, true, false, cond, ◌&&◌, ◌||◌, ◌==◌, List, [], ◌∷◌, ◌++◌, length, get_or, refl, sym, ap, subst, ◌∙◌, arith, Option, None, Some, ltb, ltb-true, ltb-false, leb, leb-true, eq-eqb, true≢false}
+use Rattle.std.proofs.lemmas.Bool.{cases_Bool, and_parts, and_from, cond-false, cond-true}
 use Rattle.std.proofs.lemmas.List.{length_push}
 use Rattle.std.proofs.lemmas.List.Elements.{All-push}
 use Rattle.std.proofs.lemmas.List.Folds.{list_any_at}
 use Rattle.std.proofs.lemmas.List.Quantifiers.{all_pairs_push}
 use Rattle.std.proofs.lemmas.List.Sums.{fails_before_first}
 use Rattle.std.proofs.lemmas.Option.{cond_some, same_Some, none-some, option_and_then_some}
+use Rattle.std.proofs.lemmas.Str.{IsUtf8-from_is_utf8, is_utf8-from_IsUtf8}
 use Rattle.std.proofs.lemmas.Slice.Eq.{bytes_eq-Decides}
-use Rattle.std.specs.List.{list_any, All, AllPairs, position_or_len, before_first}
+use Rattle.std.specs.List.{All, before_first}
 use Rattle.std.specs.Str.{bytes_eq, is_utf8}
-use Rattle.std.specs.Prelude.{option_and_then, codes}
+use Rattle.std.specs.Prelude.{option_and_then, codes, Result, Ok, Err, IfOk, IsUtf8}
 use mathlib.Core.Logic.{⊎_elim}
 use Rattle.mx_ids.specs.Name.{is_server_name, is_localpart, is_device_name, is_access_token}
-use Rattle.mx_ids.specs.User.{is_user_id_text, is_sigil_and_visible, is_visible, server_of as server_part, user_id_text}
+use Rattle.mx_ids.specs.User.{is_user_id_text, is_sigil_and_visible, is_visible, server_of as server_part, user_id_text, IsUserId}
 use Rattle.mx_ids.specs.Users.{IsUsers, IsUserOf, IsDeviceOf}
 use Rattle.mx_ids.specs.declared.users.Device.{Device}
 use Rattle.mx_ids.specs.declared.users.Users.{Users}
+use Rattle.mx_ids.proofs.Form.{user_from_test}
+use Rattle.mxsync.specs.declared.users_file.UsersFault.{UsersFault}
 use Rattle.mxsync.specs.UsersFile.{number_of, has_name, has_token, with_user, with_device, with_parts, with_line, with_lines, word_of, behind_word, server_of, users_of_lines, users_of, lines_of}
 use Rattle.mxsync.proofs.Indices.{number_push}
 
@@ -124,13 +127,13 @@ unfolding with_parts
 with_parts_valid u m localpart name token is h =
     let id = user_id_text localpart u.server in
     let test = cond_then (is_localpart localpart && is_user_id_text id && is_device_name name && is_access_token token) _ m h in
-    let t = and_parts (is_localpart localpart) (is_user_id_text id && is_device_name name && is_access_token token) test.0 in
-    let i = and_parts (is_user_id_text id) (is_device_name name && is_access_token token) t.1 in
-    let n = and_parts (is_device_name name) (is_access_token token) i.1 in
+    let tokens = and_parts (is_localpart localpart && is_user_id_text id && is_device_name name) (is_access_token token) test.0 in
+    let names = and_parts (is_localpart localpart && is_user_id_text id) (is_device_name name) tokens.0 in
+    let users = and_parts (is_localpart localpart) (is_user_id_text id) names.0 in
     option_and_then_some (λ more. with_device more (number_of more.users id) name token) (with_user u id) m test.1
     (λ more e f.
-    let has = with_user_valid u more id is (localpart, refl, t.0, short_id id i.0) e in
-    let served = with_device_valid more m (number_of more.users id) name token has.0.1 has.1 n.0 n.1 f in
+    let has = with_user_valid u more id is (localpart, refl, users.0, short_id id users.1) e in
+    let served = with_device_valid more m (number_of more.users id) name token has.0.1 has.1 names.1 tokens.1 f in
     (served.0 ∙ has.0.0, served.1))
   where
     cond_then : {A : Type 0} (b : Bool) (x : Option A) (y : A) → cond b x None ≡ Some y → (b ≡ true) × (x ≡ Some y)
@@ -176,3 +179,28 @@ text_of_valid false lines m h = absurd (none-some m h)
 pub users_of_valid : (bytes : List ℕ) (m : Users) → users_of bytes ≡ Some m → IsUsers m
 unfolding users_of
 users_of_valid bytes m h = text_of_valid (is_utf8 bytes) (lines_of bytes) m h
+
+pub valid_of : (bytes : List ℕ) (r : Result Users UsersFault) → IfOk r (λ users. users_of bytes ≡ Some users) → IfOk r (λ users. IsUsers users)
+valid_of bytes (Ok users) h = users_of_valid bytes users h
+valid_of bytes (Err e) h = tt
+
+-- ---- the steps of the reader
+
+-- what isn't a user id fails the test
+pub refused : (text : List ℕ) → (IsUserId text → ⊥) → is_user_id_text text ≡ false
+refused text h = ⊎_elim (λ is. absurd (h (user_from_test text is))) (λ e. e) (cases_Bool (is_user_id_text text))
+
+-- a file whose first line names a server gives what the lines behind it give
+pub behind_server : (lines behind : List (List ℕ)) (line server held : List ℕ) (u : Users) (o : Option Users) → lines ≡ line ∷ behind → Some server ≡ server_of line → held ≡ server
+    → u ≡ record { server = held; users = []; devices = [] } → with_lines u behind ≡ o → users_of_lines lines ≡ o
+behind_server lines behind line server held u o first names same new gives =
+    let start : List ℕ → Users = λ s. record { server = s; users = []; devices = [] } in
+    ap users_of_lines first ∙ ap (option_and_then (λ s. with_lines (start s) behind)) (sym names) ∙ ap (λ s. with_lines (start s) behind) (sym same) ∙ ap (λ v. with_lines v behind) (sym new) ∙ gives
+
+pub of_text : (bytes text : List ℕ) → text ≡ bytes → IsUtf8 bytes → users_of bytes ≡ users_of_lines (lines_of text)
+unfolding users_of
+of_text bytes text e is = cond-true _ _ _ (is_utf8-from_IsUtf8 bytes is) ∙ ap (λ t. users_of_lines (lines_of t)) (sym e)
+
+pub of_bytes : (bytes : List ℕ) → (IsUtf8 bytes → ⊥) → users_of bytes ≡ None
+unfolding users_of
+of_bytes bytes isnt = ⊎_elim (λ is. absurd (isnt (IsUtf8-from_is_utf8 bytes is))) (λ e. cond-false _ _ _ e) (cases_Bool (is_utf8 bytes))

@@ -2,11 +2,13 @@
 ghost use Rattle.std.specs.Prelude.{◌≡◌, ◌<◌, ◌∷◌, [], true, false, length, Some, None, IfOk, IsErrOf, MatchOption, option_map};
 ghost use Rattle.mx_ids.specs.Users.{IsUsers};
 ghost use Rattle.mx_ids.specs.User.{user_id_text, is_user_id_text};
-ghost use Rattle.mxsync.specs.UsersFile.{users_of, lines_of, with_line, with_parts, with_lines, server_of};
+ghost use Rattle.mxsync.specs.UsersFile.{users_of, users_of_lines, lines_of, with_line, with_parts, with_lines, server_of};
 ghost use Rattle.mxsync.specs.declared.users_file.UsersFault.{UsersFault};
 
 mod cuts;
 mod name_forms;
+#[cfg(test)]
+mod tests;
 mod user_list;
 
 use cuts::{cut, cut_line};
@@ -58,24 +60,32 @@ impl<T: Drop> From<AllocFailed<T>> for UsersFault {
     }
 }
 
-/// Reads a users file. It is text in UTF-8, whose lines end with LF; the last may lack it, and
-/// empty lines are passed over. The first line is `server NAME`, and each line behind it is
-/// `LOCALPART DEVICE TOKEN`, with single spaces between: a device of the user
-/// `@LOCALPART:NAME`, whose requests carry the access token. The users are numbered by first
-/// appearance, the devices by line.
+/// Reads a users file, whose form is this program's own. It is text in UTF-8. Its lines end with
+/// LF, which the last may lack, and empty lines are passed over. The first line is `server NAME`
+/// (Appendices, Server Name). Each line behind it is `LOCALPART DEVICE TOKEN` with single spaces
+/// between: a device of the user `@LOCALPART:NAME` (Appendices, User Identifiers), whose requests
+/// carry the access token. Users are numbered by first appearance, devices by line, from 0.
 ///
-/// `Broken` exactly where a line isn't of its form, gives a user a device of the same name anew,
-/// gives a token anew, or is past 4,096 users or 8,192 devices, or where the text isn't UTF-8 or
-/// has no line that isn't empty.
-#[tactic(auto, unfolding(crate::specs::UsersFile::users_of))]
+/// `Broken` exactly where the bytes aren't UTF-8, where all lines are empty, or where a line isn't
+/// of its form, has a user id above 255 bytes, repeats a device of a user or a token, or is past
+/// 4,096 users or 8,192 devices.
+///
+/// The time is linear in the file but for a search in an ordered index at each line.
 pub fn read_users(alloc: Global, bytes: &[u8]) -> Result<Users, UsersFault>
     ensures found { IfOk result (λ users. users_of bytes.now ≡ Some users) }
     ensures valid { IfOk result (λ users. IsUsers users) }
     ensures broken { IsErrOf result UsersFault.Broken → users_of bytes.now ≡ None }
 {
-    let Ok(text) = str::from_utf8(bytes) else {
-        return Err(UsersFault::Broken);
-    };
+    match str::from_utf8(bytes) {
+        Ok(text) => read_text(alloc, text),
+        Err(_) => Err(UsersFault::Broken),
+    }
+}
+
+fn read_text(alloc: Global, text: &str) -> Result<Users, UsersFault>
+    ensures found { IfOk result (λ users. users_of_lines (lines_of text.now) ≡ Some users) }
+    ensures broken { IsErrOf result UsersFault.Broken → users_of_lines (lines_of text.now) ≡ None }
+{
     let Some((line, rest)) = next_line(text) else {
         return Err(UsersFault::Broken);
     };
@@ -87,7 +97,8 @@ pub fn read_users(alloc: Global, bytes: &[u8]) -> Result<Users, UsersFault>
     Ok(users)
 }
 
-/// The list with the users of the lines of `text`.
+/// The list with the users and devices of the lines of `text`. `Broken` exactly where a line may
+/// not follow those before it.
 fn read_lines(alloc: Global, list: UserList, text: &str) -> Result<UserList, UsersFault>
     ensures found { IfOk result (λ l. with_lines list.users (lines_of text.now) ≡ Some l.users) }
     ensures broken { IsErrOf result UsersFault.Broken → with_lines list.users (lines_of text.now) ≡ None }
@@ -116,7 +127,7 @@ fn next_line(text: &str) -> Option<(&str, &str)>
     None
 }
 
-/// The server that the first line names.
+/// The server that the first line names, or `None` where it isn't of its form.
 #[tactic(auto, unfolding(crate::specs::UsersFile::server_of))]
 fn server_of(line: &str) -> Option<&str>
     ensures { option_map (λ s. s.now) result ≡ server_of line.now }
@@ -129,7 +140,8 @@ fn server_of(line: &str) -> Option<&str>
     }
 }
 
-/// The list with the user and the device of one line.
+/// The list with the user and the device of one line. `Broken` exactly where the line isn't of
+/// its form or may not follow.
 fn read_line(alloc: Global, list: UserList, line: &str) -> Result<UserList, UsersFault>
     ensures found { IfOk result (λ l. with_line list.users line.now ≡ Some l.users) }
     ensures broken { IsErrOf result UsersFault.Broken → with_line list.users line.now ≡ None }
@@ -153,18 +165,27 @@ fn read_parts(
     if !is_localpart(localpart) || !is_device_name(name) || !is_access_token(token) {
         return Err(UsersFault::Broken);
     }
-    let id = user_of(alloc, localpart, list.users.server.as_str())?;
+    let id = checked_id(id_text(alloc, localpart, list.users.server.as_str())?)?;
     let (list, user) = list.with_user(alloc, id)?;
     list.with_device(alloc, user, text_of(alloc, name)?, text_of(alloc, token)?)
 }
 
-/// The user id of a localpart and a server. `Broken` exactly where it is too long.
-fn user_of(alloc: Global, localpart: &str, server: &str) -> Result<UserId, UsersFault>
-    ensures found { IfOk result (λ id. (id ≡ user_id_text localpart.now server.now) × (is_user_id_text id ≡ true)) }
-    ensures broken { IsErrOf result UsersFault.Broken → is_user_id_text (user_id_text localpart.now server.now) ≡ false }
+/// The text of a user id, whatever its length.
+fn id_text(alloc: Global, localpart: &str, server: &str) -> Result<Text, Memory>
+    ensures { IfOk result (λ t. t ≡ user_id_text localpart.now server.now) }
 {
-    let text = Text::from_string(format!(in alloc; "@{localpart}:{server}")?);
-    user_id(text).ok_or(UsersFault::Broken)
+    Ok(Text::from_string(format!(in alloc; "@{localpart}:{server}")?))
+}
+
+/// The user id that a text is. `Broken` exactly where it is none.
+fn checked_id(text: Text) -> Result<UserId, UsersFault>
+    ensures found { IfOk result (λ id. (id ≡ text) × (is_user_id_text id ≡ true)) }
+    ensures broken { IsErrOf result UsersFault.Broken → is_user_id_text text ≡ false }
+{
+    match user_id(text) {
+        Some(id) => Ok(id),
+        None => Err(UsersFault::Broken),
+    }
 }
 
 fn text_of(alloc: Global, text: &str) -> Result<Text, Memory>
