@@ -1,5 +1,5 @@
 -- Induction on a JSON value.
-use Rattle.std.proofs.Common.{◌≡◌, ℕ, ℤ, List, [], ◌∷◌, map, Bool, sym, subst}
+use Rattle.std.proofs.Common.{ℕ, ℤ, List, [], ◌∷◌, map, Bool, sym, subst}
 use Rattle.std.specs.List.{AllByRecursion}
 use Rattle.mx_json.specs.declared.members.Member.{Member}
 use Rattle.mx_json.specs.declared.value.Json as json

@@ -6,3 +6,4 @@ pub mod Data
 pub mod Texts
 pub mod Sizes
 pub mod Whole
+pub mod ReadBack

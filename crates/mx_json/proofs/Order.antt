@@ -67,7 +67,7 @@ last_of k [] m h = h.0
 last_of k (x ∷ ms) m h = last_of k ms m h.1
 
 -- a key that is above the others goes last
-put_above : (ms : List (Member Json)) (m : Member Json) → are_ordered (keys.keys_of (ms ++ m ∷ [])) ≡ true → put m.key (data_of m.value) (members_data ms) ≡ members_data (ms ++ m ∷ [])
+pub put_above : (ms : List (Member Json)) (m : Member Json) → are_ordered (keys.keys_of (ms ++ m ∷ [])) ≡ true → put m.key (data_of m.value) (members_data ms) ≡ members_data (ms ++ m ∷ [])
 put_above [] m h = refl
 put_above (x ∷ ms) m h =
     let below = last_of x.key ms m (below_rest x.key (keys.keys_of (ms ++ m ∷ [])) h) in

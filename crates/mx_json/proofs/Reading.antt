@@ -1,5 +1,5 @@
 -- What `read_json` is, case by case.
-use Rattle.std.proofs.Common.{◌≡◌, ℕ, List, Bool, true, false, Option, Some, None, Ok, Err, refl, sym, ap, ◌∙◌}
+use Rattle.std.proofs.Common.{◌≡◌, ℕ, List, Bool, true, false, Some, None, Ok, Err, refl, sym, ap, ◌∙◌}
 use Rattle.std.proofs.lemmas.Str.{IsUtf8-from_is_utf8, is_utf8-from_IsUtf8}
 use Rattle.std.specs.Str.{IsUtf8, is_utf8}
 use Rattle.serde_json.specs.Data.{Data}
@@ -8,7 +8,7 @@ use Rattle.serde_json.specs.Read.{read}
 use Rattle.mx_json.specs.declared.fault.JsonFault.TheVariants as faults
 use Rattle.mx_json.specs.declared.value.Json.{Json}
 use Rattle.mx_json.specs.Numbers.{any_number, has_large}
-use Rattle.mx_json.specs.Reading.{checked, found, read_json}
+use Rattle.mx_json.specs.Reading.{checked, read_json}
 use Rattle.mx_json.specs.Values.{data_of, json_of}
 use Rattle.mx_json.specs.Laws.{IsInRange}
 use Rattle.mx_json.proofs.Fractions.{any_float, is_whole}

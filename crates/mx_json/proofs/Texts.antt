@@ -18,7 +18,7 @@ text-Null = ap compact_text data-Null
 pub text-Bool : (b : Bool) → json_text (json.Bool b) ≡ token_text (Token.boolean b)
 text-Bool b = ap compact_text (data-Bool b)
 
-integer_text : (z : ℤ) → number_text (of_integer z) ≡ signed_decimal z
+pub integer_text : (z : ℤ) → number_text (of_integer z) ≡ signed_decimal z
 integer_text (pos n) = refl
 integer_text (negsuc n) = refl
 

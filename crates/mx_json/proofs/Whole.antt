@@ -1,11 +1,11 @@
 -- A value in range is made of its data again.
-use Rattle.std.proofs.Common.{◌≡◌, ℕ, ◌^◌, ◌<◌, ℤ, pos, negsuc, List, [], ◌∷◌, Bool, true, false, nat_lt, Some, refl, sym, ap, ap₂, subst, ◌∙◌, arith}
+use Rattle.std.proofs.Common.{◌≡◌, ℕ, ◌^◌, ℤ, pos, negsuc, List, [], ◌∷◌, true, false, nat_lt, Some, refl, sym, ap, ap₂, ◌∙◌, arith}
 use Rattle.std.proofs.lemmas.Bool.{or_parts}
 use Rattle.std.proofs.lemmas.Bool.Decides.{nat_tests}
 use Rattle.std.specs.List.{AllByRecursion}
 use Rattle.serde_json.specs.Find.{as_i64, of_integer}
 use Rattle.mx_json.specs.Laws.{IsInRange}
-use Rattle.mx_json.specs.Numbers.{is_large, largest, has_large, any_number, any_in_items, any_in_members}
+use Rattle.mx_json.specs.Numbers.{is_large, largest, has_large, any_in_items, any_in_members}
 use Rattle.mx_json.specs.Values.{data_of, json_of, jsons_of, members_of_data, items_data, members_data}
 use Rattle.mx_json.specs.declared.members.Member.{Member}
 use Rattle.mx_json.specs.declared.value.Json as json

@@ -10,7 +10,7 @@ pub enum JsonFault {
     /// A number isn't held as a whole number: it has a point or an exponent, is `-0`, or is out of 64 bits.
     #[error("bad JSON: fraction")]
     Fraction,
-    /// A whole number lies outside plus or minus 9,007,199,254,740,991 (Client-Server API, Canonical JSON).
+    /// A whole number lies outside plus or minus 9,007,199,254,740,991 (Appendices, Canonical JSON).
     #[error("bad JSON: integer out of range")]
     IntegerRange,
     /// Want of memory.

@@ -1,8 +1,13 @@
 //! Laws of the definitions: functions that do nothing, whose contracts hold of every value.
-ghost use Rattle.mx_json.specs.Laws.{DataIsWhole};
+ghost use Rattle.mx_json.specs.Laws.{DataIsWhole, TextReadsBack};
 
-/// The data of a value in range is that of no other: the value is made of it again.
+/// A value in range is made of its data again, so no other value has its data.
 pub fn data_is_whole()
     ensures { DataIsWhole }
-{
-}
+{}
+
+/// The compact text of a value reads back as the value, where it is in range and nests at most 127 deep, its texts are
+/// UTF-8 and its keys are in order.
+pub fn text_reads_back()
+    ensures { TextReadsBack }
+{}

@@ -8,11 +8,13 @@ mod members;
 mod numbers;
 mod reader;
 mod size;
+#[cfg(test)]
+mod tests;
 mod value;
 mod writer;
 
 pub use fault::JsonFault;
-pub use laws::data_is_whole;
+pub use laws::{data_is_whole, text_reads_back};
 pub use members::{Member, Members};
 pub use reader::read;
 pub use value::Json;

@@ -7,14 +7,14 @@ ghost use Rattle.mx_json.specs.Values.{whole, json_of, jsons_of, members_of_data
 ghost use Rattle.mx_json.specs.Reading.{checked, read_json};
 
 use crate::fault::JsonFault;
-use crate::value::Json;
 use crate::members::Members;
 use crate::numbers::{Flaw, is_flawed};
+use crate::value::Json;
 use mx_ids::{Memory, Seq, Text};
 use serde_json::{Map, Number, Value};
 use std::alloc::Global;
 
-/// The value that a text is (RFC 8259; Client-Server API, Canonical JSON), as `read_json` of specs/Reading says.
+/// The value that a text is (RFC 8259; Appendices, Canonical JSON), as `read_json` of specs/Reading says.
 ///
 /// `NotJson` where the bytes aren't UTF-8 or no JSON text, nest more than 127 deep, or hold a number beyond the finite
 /// floats or half of a surrogate pair. Else `Fraction` where a number isn't held as a whole number: it has a point or an

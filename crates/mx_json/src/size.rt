@@ -16,13 +16,7 @@ impl Json {
     {
         match self {
             Json::Null => 4,
-            Json::Bool(b) => {
-                if *b {
-                    4
-                } else {
-                    5
-                }
-            }
+            Json::Bool(b) => { if *b { 4 } else { 5 } }
             Json::Int(n) => integer_size(*n),
             Json::Text(text) => quoted_size(text.as_str()),
             Json::List(items) => list_size(items),
@@ -59,7 +53,10 @@ fn members_size(members: &Members<Json>) -> u64
     let mut size: u64 = 1;
     for member in members.as_slice() {
         let key = quoted_size(member.key.as_str());
-        size = size.saturating_add(key).saturating_add(member.value.size()).saturating_add(2);
+        size = size
+            .saturating_add(key)
+            .saturating_add(member.value.size())
+            .saturating_add(2);
     }
     size
 }

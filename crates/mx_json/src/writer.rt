@@ -8,7 +8,6 @@ ghost use Rattle.mx_json.specs.Laws.{IsInRange};
 ghost use Rattle.mx_json.specs.Reading.{read_json};
 ghost use Rattle.mx_json.specs.Texts.{json_text};
 
-use crate::members::Member;
 use crate::members::Members;
 use crate::value::Json;
 use mx_ids::{Memory, Seq, Text};

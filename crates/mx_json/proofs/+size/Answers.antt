@@ -24,7 +24,7 @@ size::list_size-loop-item-preserved t c =
 pub size::list_size-returns : goal.size::list_size-returns
 size::list_size-returns t c =
     all_items c.args.items.now c.as_slice-item-items.result.now c.loop-item.item-index c.loop-item.size c.as_slice-item-items.ensures
-        (sym c.is_empty.ensures ∙ c.if-is_empty.false) c.loop-item-test.false c.loop-item.invariant
+    (sym c.is_empty.ensures ∙ c.if-is_empty.false) c.loop-item-test.false c.loop-item.invariant
 
 pub size::members_size-loop-member-preserved : goal.size::members_size-loop-member-preserved
 size::members_size-loop-member-preserved t c =
@@ -34,9 +34,9 @@ size::members_size-loop-member-preserved t c =
     let more : take (l.member-index + 1) ms ≡ take l.member-index ms ++ m ∷ [] = grind (arith, common_steps, c.member-item.is, c.loop-member-test.true) in
     let named = c.quoted_size-key.ensures ∙ ap (λ s. min (length (quoted s)) (2 ^ 64 - 1)) c.as_str.ensures in
     one_member ms l.member-index m l.size c.quoted_size-key.result c.saturating_add.result c.size.result c.saturating_add-in-loop-member.result c.saturating_add-size.result
-        more l.invariant named c.saturating_add.ensures c.size.ensures c.saturating_add-in-loop-member.ensures c.saturating_add-size.ensures
+    more l.invariant named c.saturating_add.ensures c.size.ensures c.saturating_add-in-loop-member.ensures c.saturating_add-size.ensures
 
 pub size::members_size-returns : goal.size::members_size-returns
 size::members_size-returns t c =
     all_members c.args.members.now c.as_slice-member-items.result.now c.loop-member.member-index c.loop-member.size c.as_slice-member-items.ensures.value
-        (sym c.is_empty.ensures ∙ c.if-is_empty.false) c.loop-member-test.false c.loop-member.invariant
+    (sym c.is_empty.ensures ∙ c.if-is_empty.false) c.loop-member-test.false c.loop-member.invariant

@@ -26,5 +26,5 @@ returns-clause-reads_back c =
     let is = c.in_ok-value_of.ensures in
     let json = c.args.self.now in
     on_ok _ c.push_str.result (λ range deep.
-      let read_again = c.in_ok-text.ensures.reads_back (subst (λ n. n ≤ max_depth) (ap depth (sym is)) deep) in
-      reads_as (json_text json) json (subst IsUtf8 (c.as_str.ensures.value ∙ written c) c.as_str.utf8) (ap read (sym (written c)) ∙ read_again ∙ ap Some is) range)
+    let read_again = c.in_ok-text.ensures.reads_back (subst (λ n. n ≤ max_depth) (ap depth (sym is)) deep) in
+    reads_as (json_text json) json (subst IsUtf8 (c.as_str.ensures.value ∙ written c) c.as_str.utf8) (ap read (sym (written c)) ∙ read_again ∙ ap Some is) range)

@@ -1,0 +1,14 @@
+//! The front law, over every run of a machine: each law is the contract of a function with an empty body.
+
+ghost use Rattle.mx_core.specs.Runs.{CoversNoUnfinishedWrite, NeverFalls};
+
+/// In every run of a machine each position up to the front is stored, and no block that is held meets it.
+pub fn front_covers_no_unfinished_write<I>()
+    ensures { CoversNoUnfinishedWrite I }
+{}
+
+/// For two runs of a machine of which one begins with the other, the front of the first is at most that of the
+/// second, and the items up to it are equal.
+pub fn front_never_falls<I>()
+    ensures { NeverFalls I }
+{}

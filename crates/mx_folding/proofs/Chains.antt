@@ -1,0 +1,117 @@
+-- Chains of replies and pages.
+use Rattle.std.proofs.Common.{◌≡◌, ℕ, ◌≤◌, Bool, true, false, cond, List, [], ◌∷◌, Option, Some, None, option_map, refl, ap, sym, ◌∙◌, subst, arith}
+use Rattle.std.specs.Prelude.{⊤}
+use Rattle.mx_window.proofs.Each.{AllByRecursion-weaker}
+use Rattle.mx_folding.specs.Rooms.{StaysSent}
+use Rattle.mx_folding.specs.Redactions.{is_named}
+use Rattle.mx_folding.specs.Parts.{page_of}
+use Rattle.mx_folding.specs.Clients.{held, ClientRoom, with_page}
+use Rattle.mx_folding.specs.Agreement.{IsDue, RoomAgrees}
+use Rattle.mx_folding.proofs.Copies.{due_later}
+use Rattle.std.proofs.Common.{max}
+use Rattle.std.proofs.lemmas.Option.{same_Some}
+use Rattle.std.specs.Option.{option_and_then}
+use Rattle.mx_folding.proofs.Pages.{folds_page}
+use Rattle.mx_folding.proofs.Memberships.{folds_room}
+use Rattle.mx_folding.specs.Visible.{Membership, Join, Invite, Leave, Ban, is_join}
+use Rattle.mx_folding.specs.Stories.{Tokens, IsTokens, Story, own_at, IsStory, Standing, Out, In, Asked, standing_by, standing_of, standing, Holding, Holds, HoldingAgrees, IsNext, IsBase}
+use Rattle.mx_folding.specs.Chains.{Client, new_client, Gap, around, Turn, Synced, Paged, base_of, paged, with_paged, after_turn, after_turns, IsOpen, IsPast, AreTurns, Agrees, ChainsFold}
+
+-- b lies at or before the token, and the token at or before the front
+abbrev IsSound : {T : Type 0} → Tokens T → ℕ → Option T → ℕ → Type 0
+IsSound k b None front = ⊤
+IsSound k b (Some i) front = (b ≤ k.event i) × (k.event i ≤ front)
+
+base_is : {T : Type 0} (k : Tokens T) → IsTokens k → (b : ℕ) (since : Option T) (j : T) (front : ℕ) → IsSound k b since front → IsNext k since j → IsBase k (base_of k b since j) since j
+base_is k tokens b None j front sound next = refl
+base_is k tokens b (Some i) j front sound next = sound.0
+
+sound_after : {T : Type 0} (k : Tokens T) → IsTokens k → (b : ℕ) (since : Option T) (j : T) (front : ℕ) → IsSound k b since front → IsNext k since j → IsSound k (base_of k b since j) (Some j) (max front (k.event j))
+sound_after k tokens b None j front sound next = (omega arith, omega arith)
+sound_after k tokens b (Some i) j front sound next =
+    let up : k.event i ≤ k.event j = tokens.rises i j next in let low : b ≤ k.event i = sound.0 in (omega arith, omega arith)
+
+sound_paged : {T : Type 0} (k : Tokens T) (b : ℕ) (since : Option T) (front e : ℕ) → IsSound k b since front → IsSound k b since (max front e)
+sound_paged k b None front e sound = tt
+sound_paged k b (Some i) front e sound = let up : k.event i ≤ front = sound.1 in (sound.0, omega arith)
+
+-- what is held agrees at b' as at b, before the first token
+agrees_based : {E K V D T : Type 0} (k : Tokens T) (g : Story E K V D T) (b : ℕ) (since : Option T) (j : T) (front : ℕ) (had : Holding E K V) → HoldingAgrees k g b since front had → HoldingAgrees k g (base_of k b since j) since front had
+agrees_based k g b None j front had agrees = agrees
+agrees_based k g b (Some i) j front had agrees = agrees
+
+stands_in : {E K V D T : Type 0} (g : Story E K V D T) (picked : Bool) (own : Option E) → cond picked (standing_of g own) Out ≡ In → is_join (option_and_then g.membership own) ≡ true
+stands_in g false own h = absurd (cc (h))
+stands_in g true None h = absurd (cc (h))
+stands_in g true (Some e) h = by (g.membership e) h where
+  by : (m : Option Membership) → standing_by m (g.stripped e) ≡ In → is_join m ≡ true
+  by None h = absurd (cc (h))
+  by (Some Join) h = refl
+  by (Some Invite) h = absurd (cc (h))
+  by (Some Leave) h = absurd (cc (h))
+  by (Some Ban) h = absurd (cc (h))
+
+-- a page of a room that the user is joined in
+page_in : {E K V D T : Type 0} (k : Tokens T) (g : Story E K V D T) (story : IsStory k g) (limit b e front front' : ℕ) (i : T) (gap : Gap E) (had : Holding E K V) (st : Standing)
+    → standing g (k.event i) ≡ st → k.event i ≤ e → e ≤ front' → front ≤ front' → IsOpen (Some gap) had → Holds k g b i front st had
+    → Holds k g b i front' st (with_paged g limit e (Some gap) had)
+page_in k g story limit b e front front' i gap had Out is past upto later open' h = absurd (cc (h.0, open'.2))
+page_in k g story limit b e front front' i gap had (Asked ids) is past upto later open' h = absurd (cc (h.0, open'.2))
+page_in {E = E} {K = K} {V = V} k g story limit b e front front' i gap had In is past upto later open' h =
+    let room : ClientRoom E K = h.0 in
+    let same : ◌≡◌ {A = Option (ClientRoom E K × V)} (Some (open'.0, open'.1)) (Some (h.0, h.1)) = sym open'.2 ∙ h.2 in
+    let same_room : open'.0 ≡ h.0 = ap (λ (p : ClientRoom E K × V). p.0) (same_Some (open'.0, open'.1) (h.0, h.1) same) in
+    let timeline : room.timeline ≡ around gap = ap (λ (c : ClientRoom E K). c.timeline) (sym same_room) ∙ open'.3 in
+    let whole : ◌≡◌ {A = ClientRoom E K} room (record { state = room.state; timeline = around gap }) = λ j. record { state = room.state; timeline = timeline j } in
+    let agrees : RoomAgrees g.room g.events b (k.event i) front (record { state = room.state; timeline = around gap }) = subst (RoomAgrees g.room g.events b (k.event i) front) whole h.3 in
+    let stays : StaysSent g.room g.events (k.event i) = story.stays (k.event i) (stands_in g g.picked (own_at g (k.event i)) is) in (
+      with_page g.room gap.lower gap.front gap.before gap.behind (page_of g.room g.events limit gap.front e gap.lower gap.upper) room.state,
+      h.1,
+      ap (option_map (paged g limit e gap)) h.2,
+      folds_page g.room g.events story.room limit b (k.event i) front front' e gap.lower gap.upper gap.front gap.before gap.behind room.state stays past upto later agrees,
+      h.4,
+      h.5,
+    )
+
+-- a later front asks no more of what is held
+holds_later : {E K V D T : Type 0} (k : Tokens T) (g : Story E K V D T) (b : ℕ) (i : T) (front front' : ℕ) (st : Standing) (had : Holding E K V) → front ≤ front' → Holds k g b i front st had → Holds k g b i front' st had
+holds_later k g b i front front' Out had up h = h
+holds_later k g b i front front' (Asked ids) had up h = h
+holds_later k g b i front front' In had up h =
+    let room = h.0 in
+    let agrees = h.3 in (
+      h.0,
+      h.1,
+      h.2,
+      record {
+        timeline = agrees.timeline;
+        state = agrees.state;
+        held_copies = AllByRecursion-weaker (IsDue g.room g.events front (is_named g.room (held room.timeline))) (IsDue g.room g.events front' (is_named g.room (held room.timeline)))
+            (λ c d. due_later g.room g.events front front' (is_named g.room (held room.timeline)) c up d) (held room.timeline) agrees.held_copies;
+        state_copies = λ key c e. due_later g.room g.events front front' (is_named g.room (held room.timeline)) c up (agrees.state_copies key c e);
+      },
+      h.4,
+      h.5,
+    )
+
+page_step : {E K V D T : Type 0} (k : Tokens T) (g : Story E K V D T) (story : IsStory k g) (limit b e front front' : ℕ) (since : Option T) (gap : Option (Gap E)) (had : Holding E K V)
+    → IsPast k since e → e ≤ front' → front ≤ front' → IsOpen gap had → HoldingAgrees k g b since front had → HoldingAgrees k g b since front' (with_paged g limit e gap had)
+page_step k g story limit b e front front' None None had past upto later open' agrees = agrees
+page_step k g story limit b e front front' None (Some gap) had past upto later open' agrees = absurd (cc (agrees.0, open'.2))
+page_step k g story limit b e front front' (Some i) None had past upto later open' agrees = holds_later k g b i front front' (standing g (k.event i)) had later agrees
+page_step k g story limit b e front front' (Some i) (Some gap) had past upto later open' agrees = page_in k g story limit b e front front' i gap had (standing g (k.event i)) refl past upto later open' agrees
+
+-- each turn keeps the agreement
+turns_fold : {X E K V D T : Type 0} (k : Tokens T) → IsTokens k → (w : X → Story E K V D T) → ((x : X) → IsStory k (w x)) → (c : Client X E K V T) (turns : List (Turn X E K T))
+    → IsSound k c.base c.token c.front → Agrees k w c → AreTurns k w c turns → Agrees k w (after_turns k w c turns)
+turns_fold k tokens w stories c [] sound agrees are = agrees
+turns_fold k tokens w stories c (Synced ask heroes j ∷ turns) sound agrees are =
+    turns_fold k tokens w stories (after_turn k w c (Synced ask heroes j)) turns (sound_after k tokens c.base c.token j c.front sound are.0)
+    (λ x. folds_room k tokens (w x) (stories x) ask (heroes x) (base_of k c.base c.token j) c.token j c.front (max c.front (k.event j)) (c.rooms x)
+    are.0 (base_is k tokens c.base c.token j c.front sound are.0) (omega arith) (omega arith) (agrees_based k (w x) c.base c.token j c.front (c.rooms x) (agrees x))) are.1
+turns_fold k tokens w stories c (Paged limit e gaps ∷ turns) sound agrees are =
+    turns_fold k tokens w stories (after_turn k w c (Paged limit e gaps)) turns (sound_paged k c.base c.token c.front e sound)
+    (λ x. page_step k (w x) (stories x) limit c.base e c.front (max c.front e) c.token (gaps x) (c.rooms x) are.0.0 (omega arith) (omega arith) (are.0.1 x) (agrees x)) are.1
+
+pub chains_fold : {X E K V D T : Type 0} → ChainsFold X E K V D T
+chains_fold {X = X} {E = E} {K = K} {V = V} {T = T} k tokens w stories turns are = turns_fold k tokens w stories (new_client X E K V T) turns tt (λ x. (refl, refl)) are

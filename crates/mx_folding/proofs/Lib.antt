@@ -1,0 +1,16 @@
+pub mod Redacting
+pub mod Timelines
+pub mod Cuts
+pub mod States
+pub mod Copies
+pub mod Owed
+pub mod Replies
+pub mod Pages
+pub mod Rest
+pub mod Sees
+pub mod Memberships
+pub mod Chains
+pub mod Longer
+pub mod Lists
+pub mod Events
+pub mod LongerEvents

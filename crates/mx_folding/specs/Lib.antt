@@ -1,0 +1,13 @@
+pub mod Rooms
+pub mod Sections
+pub mod Redactions
+pub mod Parts
+pub mod Clients
+pub mod Agreement
+pub mod Laws
+pub mod Visible
+pub mod Stories
+pub mod Chains
+pub mod Lists
+pub mod Longer
+pub mod Events

@@ -1,0 +1,72 @@
+-- What a sync reply and a page say of one room: state part, section and page members, with and without lazy members
+-- (Client-Server API, Syncing, and Lazy-loading room members).
+use Rattle.std.specs.Prelude.{ℕ, Bool, cond, not, ◌&&◌, ◌||◌, List, [], length, map, nat_lt, nat_le}
+use Rattle.std.specs.List.{filter, list_any}
+use Rattle.mx_window.specs.Windows.{between, before_first}
+use Rattle.mx_window.specs.Lasts.{current}
+use Rattle.mx_folding.specs.Rooms.{Room}
+use Rattle.mx_folding.specs.Sections.{sendable, section, cut, is_limited, chunk}
+use Rattle.mx_folding.specs.Redactions.{shown}
+
+-- a sender of these events has the member key
+abbrev pub is_sender : {E K : Type 0} → Room E K → List E → K → Bool
+is_sender r sent k = list_any (r.wrote k) sent
+
+-- the state at a position, as a list in order of position
+abbrev pub state_list : {E K : Type 0} → Room E K → List E → ℕ → List E
+state_list r es p = filter r.is_state (current r.same (between r.at 0 p es))
+
+-- of the state at q, what the filter passes and is picked
+abbrev pub state_part : {E K : Type 0} → Room E K → List E → (E → Bool) → ℕ → List E
+state_part r es pick q = filter pick (filter r.keeps (state_list r es q))
+
+-- a lazy member event that the client is known to hold: it came after b and at or before the token, and the user was
+-- joined all that time
+abbrev pub is_omitted : {E K : Type 0} → Room E K → Bool → ℕ → ℕ → E → Bool
+is_omitted r redundant b since e = not redundant && (nat_le (r.at e) since && (r.stayed b since && nat_lt b (r.at e)))
+
+-- a later reply picks what came after the token (`from` is the token's position, or 0 with full_state), and with lazy
+-- members the member events of the section's senders and of the heroes, less those omitted
+abbrev pub picks : {E K : Type 0} → Room E K → Bool → ℕ → ℕ → ℕ → (K → Bool) → List E → E → Bool
+picks r redundant b since from heroes sent e =
+    nat_lt from (r.at e) || (r.lazy && (r.member (r.key e) && ((is_sender r sent (r.key e) || heroes (r.key e)) && not (is_omitted r redundant b since e))))
+
+-- a new room's reply picks all, but with lazy members of the member events only the user's own, the senders' and the heroes'
+abbrev pub picks_new : {E K : Type 0} → Room E K → (K → Bool) → List E → E → Bool
+picks_new r heroes sent e = not r.lazy || (not (r.member (r.key e)) || (r.mine (r.key e) || (is_sender r sent (r.key e) || heroes (r.key e))))
+
+-- what a reply says of one room
+pub record Part (E : Type 0) : Type 0 where
+  pub limited : Bool
+  -- the position of prev_batch
+  pub cut : ℕ
+  pub state : List E
+  pub sent : List E
+
+-- the part for the window (s, t], judged and shown at a front: at t, but for a room that the user left, whose window ends
+-- with its stay; `pick` sees the section, since lazy members depend on its senders
+abbrev pub part_of : {E K : Type 0} → Room E K → List E → Bool → ℕ → ℕ → ℕ → ℕ → (List E → E → Bool) → Part E
+part_of r es after limit front s t pick = record {
+  limited = is_limited r es after limit front s t;
+  cut = cut r es after limit front s t;
+  state = map (shown r es front) (state_part r es (pick (section r es after limit front s t)) (cond after t (cut r es after limit front s t)));
+  sent = map (shown r es front) (section r es after limit front s t);
+}
+
+-- what a backward page says
+pub record Page (E : Type 0) : Type 0 where
+  pub more : Bool
+  -- the position of the page's end
+  pub end : ℕ
+  pub members : List E
+  pub sent : List E
+
+-- the page of (low, high] at the front e; lazy members are those of the state at g, the position of the sync token that
+-- the gap was cut at
+abbrev pub page_of : {E K : Type 0} → Room E K → List E → ℕ → ℕ → ℕ → ℕ → ℕ → Page E
+page_of r es limit g e low high = record {
+  more = nat_lt (length (chunk r es limit e low high)) (length (sendable r es e low high));
+  end = before_first r.at high (chunk r es limit e low high);
+  members = cond r.lazy (map (shown r es e) (filter (λ v. r.member (r.key v) && is_sender r (chunk r es limit e low high) (r.key v)) (state_list r es g))) [];
+  sent = map (shown r es e) (chunk r es limit e low high);
+}

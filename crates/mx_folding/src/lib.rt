@@ -1,0 +1,26 @@
+//! The folding law: what a client holds, after it has folded sync replies and pages into it, is what one unlimited
+//! initial sync at its token shows.
+//!
+//! The crate has definitions and laws, and no code that runs. `specs/` states, over events of any type, what a reply
+//! and a page say of a room (Client-Server API, Syncing, and Getting events for a room), what a client does with it,
+//! and when a client agrees with the picture at its token. Each law is the contract of a function here; the functions
+//! do nothing when they run.
+#![tactic(auto)]
+
+mod chain_laws;
+mod event_laws;
+mod list_laws;
+mod room_laws;
+
+pub use chain_laws::{chains_fold, folds_room};
+pub use event_laws::{
+    events_are_story, events_fold, same_paged, same_told, same_visible, stays_visible,
+};
+pub use list_laws::{all_told_at, same_page, same_part};
+pub use room_laws::{
+    folds_new, folds_nothing, folds_page, folds_reply, holds_all, holds_the_rest, holds_the_state,
+    section_is_window, sent_is_visible,
+};
+
+#[cfg(test)]
+mod tests;

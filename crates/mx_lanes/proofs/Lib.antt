@@ -1,0 +1,3 @@
+mod Books
+mod Orders
+pub mod Stands

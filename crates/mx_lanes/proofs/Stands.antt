@@ -1,0 +1,44 @@
+-- What a book stands for.
+use Rattle.std.proofs.Common.{◌≡◌, ℕ, ◌+◌, ◌<◌, ◌≤◌, ◌⊎◌, false, List, [], ◌∷◌, ◌++◌, length, refl, sym, ap, ◌∙◌, subst, inl, inr, arith}
+use Rattle.std.proofs.lemmas.Bool.{cases_lt, false≢true, false_from_ne_true}
+use Rattle.std.proofs.lemmas.List.{same_from_push}
+use Rattle.mx_core.specs.declared.history.Stored.{Stored}
+use Rattle.mx_core.specs.Front.{IsFront}
+use Rattle.mx_core.specs.History.{is_stored}
+use Rattle.mx_core.proofs.Histories.{stored_cases}
+use Rattle.mx_lanes.specs.Held.{Held, empty, StandsFor}
+use Rattle.mx_lanes.specs.Laws.{OneHistory, OneStoreMore, StandsStill}
+
+pub one_history : {I : Type 0} → OneHistory I
+one_history h k b a c = sym a.history ∙ c.history
+
+-- the store by which a book goes beyond a history is known by the book
+pub next_one : {I : Type 0} (h : List (Stored I)) (x y : Stored I) (b : Held I) → StandsFor (h ++ x ∷ []) b → StandsFor (h ++ y ∷ []) b → x ≡ y
+next_one h x y b a c = (same_from_push h h x y (one_history (h ++ x ∷ []) (h ++ y ∷ []) b a c)).1
+
+stands : {I : Type 0} (h : List (Stored I)) (b : Held I) → b.history ≡ h → IsFront b.history b.front → StandsFor h b
+stands h b is front = record { history = is; stores = ap length is; front = subst (λ l. IsFront l b.front) is front }
+
+-- an empty book stands for the empty history
+pub stands_empty : {I : Type 0} (writers : ℕ) → StandsFor {I = I} [] (empty writers)
+stands_empty writers = stands [] (empty writers) refl (record {
+  stored = λ p pos le. absurd (omega arith);
+  greatest = λ g all. elim (cases_lt 0 g) [ inl pos ↦ absurd (false≢true (all g pos (omega arith))) | inr le ↦ le ];
+})
+
+pub one_store_more : {I : Type 0} → OneStoreMore I
+one_store_more h x old new a more front = stands (h ++ x ∷ []) new (more ∙ ap (λ l. l ++ x ∷ []) a.history) front
+
+pub stands_still : {I : Type 0} → StandsStill I
+stands_still h old new a k = record {
+  history = k.history ∙ a.history;
+  stores = ap length (k.history ∙ a.history);
+  front = subst (IsFront h) (sym k.front) a.front;
+}
+
+-- a position apart from a store is stored after it only if it was before
+pub apart_next : {I : Type 0} (h longer : List (Stored I)) (x : Stored I) (p : ℕ) → longer ≡ h ++ x ∷ [] → is_stored h p ≡ false → (p < x.first) ⊎ (x.first + length x.items ≤ p) → is_stored longer p ≡ false
+apart_next h longer x p is free apart = ap (λ l. is_stored l p) is ∙ false_from_ne_true (is_stored (h ++ x ∷ []) p) (λ e. elim (stored_cases h x p e) [
+  | inl before ↦ false≢true (sym free ∙ before)
+  | inr range ↦ elim apart [ inl under ↦ omega (arith, range.0) | inr over ↦ omega (arith, range.1) ]
+])

@@ -1,0 +1,6 @@
+pub mod Book
+pub mod Held
+pub mod Laws
+pub mod Order
+pub mod Parts
+pub mod Room

@@ -1,0 +1,15 @@
+//! A stream's stores as they stand in memory: one lane for each writer, whose room is made before a block is drawn,
+//! the front, and the items up to a front.
+#![tactic(auto)]
+
+mod book;
+mod laws;
+mod order;
+mod parts;
+mod room;
+#[cfg(test)]
+mod tests;
+
+pub use book::Book;
+pub use laws::{book_stands_for_one_history, book_stands_still, book_stands_with_one_store_more};
+pub use parts::Parts;

@@ -1,0 +1,4 @@
+pub mod Each
+pub mod Intervals
+pub mod Lasts
+pub mod Sections
