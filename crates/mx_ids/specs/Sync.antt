@@ -1,5 +1,5 @@
 -- The text of a sync token, and which tokens are in range and in order.
-use Rattle.std.specs.Prelude.{ℕ, ◌^◌, ◌-◌, ◌<◌, ◌≤◌, Bool, ◌&&◌, nat_lt, ◌==◌, length, if◌then◌else◌, List, ◌∷◌, ◌++◌, Option, Some, None, Result, Ok, Err, option_and_then}
+use Rattle.std.specs.Prelude.{ℕ, ◌^◌, ◌<◌, ◌≤◌, Bool, ◌&&◌, nat_lt, ◌==◌, length, if◌then◌else◌, List, ◌∷◌, ◌++◌, Option, Some, None, Result, Ok, Err, option_and_then}
 use Rattle.mx_ids.specs.Decimal.{numeral}
 use Rattle.mx_ids.specs.Mark.{marked_at}
 use Rattle.mx_ids.specs.declared.sync_token.SyncToken.{SyncToken}
@@ -43,7 +43,3 @@ sync_token_at most text =
 unfoldable pub judged : Option SyncToken → Result SyncToken TokenFault
 judged None = Err Shape
 judged (Some t) = if is_in_range t then (if nat_lt t.e t.b then Err Order else Ok t) else Err TooLarge
-
--- what a text is read as
-abbrev pub read_token : List ℕ → Result SyncToken TokenFault
-read_token text = judged (sync_token_at (2 ^ 64 - 1) text)

@@ -1,5 +1,5 @@
 ghost use Rattle.std.specs.Prelude.{◌≡◌, ◌≢◌, ◌↔◌, ◌<◌, ◌≤◌, ◌++◌, ◌^◌, ◌-◌, IfOk, Ok, IsErrOf, OnOk, OnErr, string_bytes, decimal, ◌∷◌};
-ghost use Rattle.mx_ids.specs.Sync.{sync_text, sync_token_at, judged, read_token, is_in_range, IsInRange, IsSyncToken};
+ghost use Rattle.mx_ids.specs.Sync.{sync_text, sync_token_at, judged, is_in_range, IsInRange, IsSyncToken};
 ghost use Rattle.mx_ids.specs.declared.sync_token.SyncToken.{SyncToken};
 
 use crate::memory::Memory;
@@ -51,7 +51,6 @@ pub fn read_sync_token(text: &str) -> Result<SyncToken, TokenFault>
     ensures shape { IsErrOf result TokenFault.Shape ↔ ((t : SyncToken) → text.now ≢ sync_text t) }
     ensures too_large { IsErrOf result TokenFault.TooLarge ↔ ((t : SyncToken) × (text.now ≡ sync_text t) × ¬ IsInRange t) }
     ensures order { IsErrOf result TokenFault.Order ↔ ((t : SyncToken) × (text.now ≡ sync_text t) × IsInRange t × (t.e < t.b)) }
-    ensures reads { result ≡ read_token text.now }
 {
     judge(text.as_bytes())
 }
