@@ -12,7 +12,7 @@ pub record Window : Type 0 where
 -- bytes came from the source to the end of those that were held, or the source has none left, or nothing happened
 abbrev pub Fills : Option (List ℕ) → Option (List ℕ) → List ℕ → List ℕ → Result Bool HttpFault → Type 0
 Fills old new before now (Ok true) = (piece : List ℕ) × (0 < length piece) × (now ≡ before ++ piece) × Consumes old new piece
-Fills old new before now (Ok false) = (now ≡ before) × Keeps old new × IsAtEnd old
+Fills old new before now (Ok false) = (now ≡ before) × Keeps old new × IsAtEnd new
 Fills old new before now (Err faults.ReadFault) = (now ≡ before) × Keeps old new
 Fills old new before now (Err faults.Memory) = (now ≡ before) × Keeps old new
 Fills old new before now (Err faults.Head) = ⊥

@@ -61,7 +61,7 @@ sync_is user es (Err name) = tt
 sync_is user es (Ok since) = unless_is user es since (option_and_then (λ token. ahead_of token (length es)) since)
 
 caller_is : (caller : List ℕ) (es : List Entry) (call : Call) (asks : Asked) → IsReply caller es (caller_answered caller es call asks)
-caller_is caller es call (asked.PutData user kind) = 
+caller_is caller es call (asked.PutData user kind) =
     either caller es (bytes_eq caller user) (value_answered user kind (read_json call.body)) (answered.Refused refusal.NotCaller) (value_is user kind caller es (read_json call.body)) tt
 caller_is caller es call asked.Sync = sync_is caller es (since_of (parameters (query_of call.target)))
 
@@ -118,9 +118,9 @@ continues users device es (Some c) (Some since) h =
     let next = after_reply c (reply_to user es (Some since)) in
     let Held = λ (b : Bool). Holds users device es (cond b (Some next) (Some c)) in
     ⊎_elim (λ (same : same_token c.token since ≡ true).
-        subst Held (sym same) (within es, λ kind. goes_on user kind es c.token.a since.a (c.account kind) (same_a c.token since same) (h.1 kind)))
-        (λ (other : same_token c.token since ≡ false). subst Held (sym other) h)
-        (cases_Bool (same_token c.token since))
+    subst Held (sym same) (within es, λ kind. goes_on user kind es c.token.a since.a (c.account kind) (same_a c.token since same) (h.1 kind)))
+    (λ (other : same_token c.token since ≡ false). subst Held (sym other) h)
+    (cases_Bool (same_token c.token since))
 
 -- ---- the exchanges
 
@@ -139,9 +139,9 @@ called_holds users device es client call (Some caller) e h =
     let a = answer_to users es call in
     let Held = λ (b : Bool). Holds users device (es ++ stored_by a) (cond b (with_answer client a) client) in
     ⊎_elim (λ (mine : nat_eq caller device ≡ true).
-        subst Held (sym mine) (answered_holds users device es client a (answer_is users es call device (e ∙ ap Some (eqb-true caller device mine))) h))
-        (λ (other : nat_eq caller device ≡ false). subst Held (sym other) (grows users device es (stored_by a) client h))
-        (cases_Bool (nat_eq caller device))
+    subst Held (sym mine) (answered_holds users device es client a (answer_is users es call device (e ∙ ap Some (eqb-true caller device mine))) h))
+    (λ (other : nat_eq caller device ≡ false). subst Held (sym other) (grows users device es (stored_by a) client h))
+    (cases_Bool (nat_eq caller device))
 
 exchange_holds : (users : Users) (device : ℕ) (es : List Entry) (client : Option Client) (call : Call) (memory : Bool) → Holds users device es client
     → Holds users device (after users es call memory) (with_exchange users device client (record { call = call; entries = es; memory = memory }))

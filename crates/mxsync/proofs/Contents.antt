@@ -44,14 +44,14 @@ at_place p ps k v kind Less is later = ap (put_at p ps k v kind) is
 at_place p ps k v kind Equal is later =
     let same : k ≡ p.0 = (bytes_eq-Decides k p.0).0 (sym (is_eq-slice_cmp k p.0) ∙ ap is_eq is) in
     ap (put_at p ps k v kind) is
-        ∙ same_test (bytes_eq p.0 kind) (Some v) (Some p.1) (content_at ps kind)
-        ∙ ap (λ x. cond (bytes_eq x kind) (Some v) (content_at (p ∷ ps) kind)) (sym same)
+    ∙ same_test (bytes_eq p.0 kind) (Some v) (Some p.1) (content_at ps kind)
+    ∙ ap (λ x. cond (bytes_eq x kind) (Some v) (content_at (p ∷ ps) kind)) (sym same)
 at_place p ps k v kind Greater is later =
     let other : bytes_eq k p.0 ≡ false = sym (is_eq-slice_cmp k p.0) ∙ ap is_eq is in
     ap (put_at p ps k v kind) is
-        ∙ ap (cond (bytes_eq p.0 kind) (Some p.1)) later
-        ∙ swap_tests (bytes_eq p.0 kind) (bytes_eq k kind) (Some p.1) (Some v) (content_at ps kind)
-        (λ a b. true≢false (sym ((bytes_eq-Decides k p.0).1 ((bytes_eq-Decides k kind).0 b ∙ sym ((bytes_eq-Decides p.0 kind).0 a))) ∙ other))
+    ∙ ap (cond (bytes_eq p.0 kind) (Some p.1)) later
+    ∙ swap_tests (bytes_eq p.0 kind) (bytes_eq k kind) (Some p.1) (Some v) (content_at ps kind)
+    (λ a b. true≢false (sym ((bytes_eq-Decides k p.0).1 ((bytes_eq-Decides k kind).0 b ∙ sym ((bytes_eq-Decides p.0 kind).0 a))) ∙ other))
 
 content-insert_entry : (ps : List (List ℕ × Json)) (k : List ℕ) (v : Json) (kind : List ℕ)
     → content_at (insert_entry (slice_cmp nat_cmp) ps k v) kind ≡ cond (bytes_eq k kind) (Some v) (content_at ps kind)
@@ -72,14 +72,14 @@ folded user kind known (e ∷ es) =
     let both = λ (b : Bool). content_at (fold set_entry known (cond b (e ∷ filter mine es) (filter mine es))) kind in
     let said = λ (b : Bool). option_or (option_or later (cond (b && bytes_eq e.kind kind) (Some e.content) None)) (content_at known kind) in
     ⊎_elim (λ (h : bytes_eq e.user user ≡ true).
-        ap both h
-            ∙ folded user kind (set_entry known e) es
-            ∙ ap (option_or later) (content-insert_entry known e.kind e.content kind)
-            ∙ earlier (bytes_eq e.kind kind) e.content later (content_at known kind)
-            ∙ ap said (sym h))
-        (λ (h : bytes_eq e.user user ≡ false).
-        ap both h ∙ folded user kind known es ∙ ap (λ o. option_or o (content_at known kind)) (sym (or_none later)) ∙ ap said (sym h))
-        (cases_Bool (bytes_eq e.user user))
+    ap both h
+    ∙ folded user kind (set_entry known e) es
+    ∙ ap (option_or later) (content-insert_entry known e.kind e.content kind)
+    ∙ earlier (bytes_eq e.kind kind) e.content later (content_at known kind)
+    ∙ ap said (sym h))
+    (λ (h : bytes_eq e.user user ≡ false).
+    ap both h ∙ folded user kind known es ∙ ap (λ o. option_or o (content_at known kind)) (sym (or_none later)) ∙ ap said (sym h))
+    (cases_Bool (bytes_eq e.user user))
 
 -- account data hold under each type the content that was put last
 pub content-data_of : (user kind : List ℕ) (es : List Entry) → content_at (data_of user es) kind ≡ last_content user kind es

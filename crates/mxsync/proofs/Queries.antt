@@ -44,17 +44,17 @@ not_since name =
 since_name : (name : List ℕ) (o : Option Parameter) → parameter_of name ≡ o → (o ≡ Some parameter.Since → ⊥) → bytes_eq name (codes "since") ≡ false
 since_name name o e other =
     ⊎_elim (λ (h : bytes_eq name (codes "since") ≡ true). absurd (other (sym e ∙ ap (λ b. cond b (Some parameter.Since) (not_since name)) h)))
-        (λ (h : bytes_eq name (codes "since") ≡ false). h)
-        (cases_Bool (bytes_eq name (codes "since")))
+    (λ (h : bytes_eq name (codes "since") ≡ false). h)
+    (cases_Bool (bytes_eq name (codes "since")))
 
 choose_name : (name text : List ℕ) (n m : Parameter) (more : Option Parameter) → text ≡ parameter_name m → (more ≡ Some n → name ≡ parameter_name n)
     → cond (bytes_eq name text) (Some m) more ≡ Some n → name ≡ parameter_name n
 choose_name name text n m more is later e =
     ⊎_elim (λ (h : bytes_eq name text ≡ true).
-        let same : Some m ≡ Some n = ap (λ b. cond b (Some m) more) (sym h) ∙ e in
-        (bytes_eq-Decides name text).0 h ∙ is ∙ ap parameter_name (ap (λ o. unwrap_or o m) same))
-        (λ (h : bytes_eq name text ≡ false). later (ap (λ b. cond b (Some m) more) (sym h) ∙ e))
-        (cases_Bool (bytes_eq name text))
+    let same : Some m ≡ Some n = ap (λ b. cond b (Some m) more) (sym h) ∙ e in
+    (bytes_eq-Decides name text).0 h ∙ is ∙ ap parameter_name (ap (λ o. unwrap_or o m) same))
+    (λ (h : bytes_eq name text ≡ false). later (ap (λ b. cond b (Some m) more) (sym h) ∙ e))
+    (cases_Bool (bytes_eq name text))
 
 no_name : (name : List ℕ) (n : Parameter) → ◌≡◌ {A = Option Parameter} None (Some n) → name ≡ parameter_name n
 no_name name n e = cc
@@ -128,10 +128,10 @@ bad_none q e = ap (bad_of q.1) e
 after_unknown : (s : Seen) (p : Pair) → parameter_of p.0 ≡ None → (q : Pair) → cond (others p q && is_new s q) (bad_in q) None ≡ cond (is_new s q) (bad_in q) None
 after_unknown s p e q =
     ⊎_elim (λ (h : bytes_eq q.0 p.0 ≡ true).
-        subst (λ (o : Option Parameter). cond (others p q && is_new s q) o None ≡ cond (is_new s q) o None) (sym (bad_none q (same_parameter p q None e h)))
-        (none_either (others p q && is_new s q) (is_new s q) None))
-        (λ (h : bytes_eq q.0 p.0 ≡ false). ap (λ b. cond (not b && is_new s q) (bad_in q) None) h)
-        (cases_Bool (bytes_eq q.0 p.0))
+    subst (λ (o : Option Parameter). cond (others p q && is_new s q) o None ≡ cond (is_new s q) o None) (sym (bad_none q (same_parameter p q None e h)))
+    (none_either (others p q && is_new s q) (is_new s q) None))
+    (λ (h : bytes_eq q.0 p.0 ≡ false). ap (λ b. cond (not b && is_new s q) (bad_in q) None) h)
+    (cases_Bool (bytes_eq q.0 p.0))
 
 not_new : (s : Seen) (n : Parameter) (q : Pair) → parameter_of q.0 ≡ Some n → is_seen s n ≡ true → is_new s q ≡ false
 not_new s n q e h = ap (λ o. not (is_named s o)) e ∙ ap not h
@@ -140,9 +140,9 @@ after_repeated : (s : Seen) (p : Pair) (n : Parameter) → parameter_of p.0 ≡ 
     → (q : Pair) → cond (others p q && is_new s q) (bad_in q) None ≡ cond (is_new s q) (bad_in q) None
 after_repeated s p n e seen q =
     ⊎_elim (λ (h : bytes_eq q.0 p.0 ≡ true).
-        ap (λ b. cond (not b && is_new s q) (bad_in q) None) h ∙ ap (λ b. cond b (bad_in q) None) (sym (not_new s n q (same_parameter p q (Some n) e h) seen)))
-        (λ (h : bytes_eq q.0 p.0 ≡ false). ap (λ b. cond (not b && is_new s q) (bad_in q) None) h)
-        (cases_Bool (bytes_eq q.0 p.0))
+    ap (λ b. cond (not b && is_new s q) (bad_in q) None) h ∙ ap (λ b. cond b (bad_in q) None) (sym (not_new s n q (same_parameter p q (Some n) e h) seen)))
+    (λ (h : bytes_eq q.0 p.0 ≡ false). ap (λ b. cond (not b && is_new s q) (bad_in q) None) h)
+    (cases_Bool (bytes_eq q.0 p.0))
 
 named_as_before : (s : Seen) (n : Parameter) (v : List ℕ) (o : Option Parameter) → (o ≡ Some n → ⊥) → is_named s o ≡ is_named (with_value s n v) o
 named_as_before s n v None h = refl
@@ -152,13 +152,13 @@ after_new : (s : Seen) (p : Pair) (n : Parameter) → parameter_of p.0 ≡ Some 
     → (q : Pair) → cond (others p q && is_new s q) (bad_in q) None ≡ cond (is_new (with_value s n p.1) q) (bad_in q) None
 after_new s p n e form q =
     ⊎_elim (λ (h : bytes_eq q.0 p.0 ≡ true).
-        ap (λ b. cond (not b && is_new s q) (bad_in q) None) h
-            ∙ ap (λ b. cond b (bad_in q) None) (sym (not_new (with_value s n p.1) n q (same_parameter p q (Some n) e h) (seen_then s n p.1 form))))
-        (λ (h : bytes_eq q.0 p.0 ≡ false).
-        let apart : parameter_of q.0 ≡ Some n → ⊥ =
-            λ f. true≢false (sym ((bytes_eq-Decides q.0 p.0).1 (has_name q.0 n f ∙ sym (has_name p.0 n e))) ∙ h) in
-        ap (λ b. cond (not b && is_new s q) (bad_in q) None) h ∙ ap (λ b. cond (not b) (bad_in q) None) (named_as_before s n p.1 (parameter_of q.0) apart))
-        (cases_Bool (bytes_eq q.0 p.0))
+    ap (λ b. cond (not b && is_new s q) (bad_in q) None) h
+    ∙ ap (λ b. cond b (bad_in q) None) (sym (not_new (with_value s n p.1) n q (same_parameter p q (Some n) e h) (seen_then s n p.1 form))))
+    (λ (h : bytes_eq q.0 p.0 ≡ false).
+    let apart : parameter_of q.0 ≡ Some n → ⊥ =
+    λ f. true≢false (sym ((bytes_eq-Decides q.0 p.0).1 (has_name q.0 n f ∙ sym (has_name p.0 n e))) ∙ h) in
+    ap (λ b. cond (not b && is_new s q) (bad_in q) None) h ∙ ap (λ b. cond (not b) (bad_in q) None) (named_as_before s n p.1 (parameter_of q.0) apart))
+    (cases_Bool (bytes_eq q.0 p.0))
 
 -- ---- the token of `since`
 
@@ -239,7 +239,7 @@ refused s p ps n e unseen form =
     let rest = filter (is_new s) (filter (others p) (firsts ps)) in
     let fresh : is_new s p ≡ true = ap (λ o. not (is_named s o)) e ∙ ap not unseen in
     let first : first_bad (filter (is_new s) (firsts (p ∷ ps))) ≡ Some n =
-        kept (is_new s p) p rest ∙ ap (λ b. option_or (cond b (bad_in p) None) (first_bad rest)) fresh ∙ ap (λ o. option_or o (first_bad rest)) (bad p n e form) in
+    kept (is_new s p) p rest ∙ ap (λ b. option_or (cond b (bad_in p) None) (first_bad rest)) fresh ∙ ap (λ o. option_or o (first_bad rest)) (bad p n e form) in
     ap (unless_bad (option_or s.since (since_in (p ∷ ps)))) first
 
 pair_read : (s : Seen) (p : Pair) (ps : List Pair) (o : Option Parameter) → parameter_of p.0 ≡ o → ((t : Seen) → read_from t ps ≡ asked_after t ps)
@@ -249,12 +249,12 @@ pair_read s p ps (Some n) e later =
     let next = λ (b : Bool). go_on (λ t. read_from t ps) (cond b (Ok (with_value s n p.1)) (Err n)) in
     let whole = λ (b : Bool). go_on (λ t. read_from t ps) (cond b (Ok s) (cond (is_of_form n p.1) (Ok (with_value s n p.1)) (Err n))) in
     ⊎_elim (λ (h : is_seen s n ≡ true). ap whole h ∙ later s ∙ repeated s p ps n e h)
-        (λ (h : is_seen s n ≡ false).
-        ap whole h
-            ∙ ⊎_elim (λ (form : is_of_form n p.1 ≡ true). ap next form ∙ later (with_value s n p.1) ∙ new s p ps n e h form)
-            (λ (form : is_of_form n p.1 ≡ false). ap next form ∙ sym (refused s p ps n e h form))
-            (cases_Bool (is_of_form n p.1)))
-        (cases_Bool (is_seen s n))
+    (λ (h : is_seen s n ≡ false).
+    ap whole h
+    ∙ ⊎_elim (λ (form : is_of_form n p.1 ≡ true). ap next form ∙ later (with_value s n p.1) ∙ new s p ps n e h form)
+    (λ (form : is_of_form n p.1 ≡ false). ap next form ∙ sym (refused s p ps n e h form))
+    (cases_Bool (is_of_form n p.1)))
+    (cases_Bool (is_seen s n))
 
 read_after : (ps : List Pair) (s : Seen) → read_from s ps ≡ asked_after s ps
 read_after [] s = ap Ok (sym (or_none s.since))

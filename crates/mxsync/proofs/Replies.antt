@@ -14,5 +14,5 @@ pub reply_made : (r : Reply) (o a b c : List (Member Json)) (k l m : List ℕ) (
 reply_made r o a b c k l m x t z none first second third k_is l_is m_is x_is t_is z_is =
     ap json.Object
     (third
-        ∙ ap (λ ms. ms ++ member m z ∷ []) (second ∙ ap (λ ms. ms ++ member l (json.Text t) ∷ []) (first ∙ ap (λ ms. ms ++ member k x ∷ []) none))
-        ∙ (λ i. member (k_is i) (x_is i) ∷ member (l_is i) (json.Text (t_is i)) ∷ member (m_is i) (z_is i) ∷ []))
+    ∙ ap (λ ms. ms ++ member m z ∷ []) (second ∙ ap (λ ms. ms ++ member l (json.Text t) ∷ []) (first ∙ ap (λ ms. ms ++ member k x ∷ []) none))
+    ∙ (λ i. member (k_is i) (x_is i) ∷ member (l_is i) (json.Text (t_is i)) ∷ member (m_is i) (z_is i) ∷ []))

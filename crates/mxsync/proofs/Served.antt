@@ -23,7 +23,7 @@ AreCalls-more front bytes (c ∷ calls) call are is = (are.0, are.1 ++ bytes, ap
 
 exchanges-more : (users : Users) (entries : List Entry) (calls : List Call) (marks : List Bool) (call : Call) (memory : Bool) → length marks ≡ length calls
     → exchanges users entries (calls ++ call ∷ []) (marks ++ memory ∷ [])
-        ≡ exchanges users entries calls marks ++ record { call = call; entries = entries_after users entries calls marks; memory = memory } ∷ []
+    ≡ exchanges users entries calls marks ++ record { call = call; entries = entries_after users entries calls marks; memory = memory } ∷ []
 exchanges-more users entries [] [] call memory same = refl
 exchanges-more users entries [] (m ∷ marks) call memory same = absurd (omega arith)
 exchanges-more users entries (c ∷ calls) [] call memory same = absurd (omega arith)
@@ -58,7 +58,7 @@ bytes-more users n (y ∷ xs) x =
 -- the bytes of the answers, with one more
 answers-more : (users : Users) (earlier : ℕ) (calls : List Call) (marks : List Bool) (call : Call) (memory : Bool) → length marks ≡ length calls → length calls ≡ earlier
     → exchanges_bytes users 0 (exchanges users [] (calls ++ call ∷ []) (marks ++ memory ∷ []))
-        ≡ exchanges_bytes users 0 (exchanges users [] calls marks) ++ exchange_bytes users earlier (record { call = call; entries = entries_after users [] calls marks; memory = memory })
+    ≡ exchanges_bytes users 0 (exchanges users [] calls marks) ++ exchange_bytes users earlier (record { call = call; entries = entries_after users [] calls marks; memory = memory })
 answers-more users earlier calls marks call memory same count =
     let x : Exchange = record { call = call; entries = entries_after users [] calls marks; memory = memory } in
     let n : 0 + length (exchanges users [] calls marks) ≡ earlier = zero-add _ ∙ (length-exchanges users [] calls marks same ∙ count) in
@@ -137,24 +137,26 @@ further : (users : Users) (left written : Option (List ℕ)) (earlier : ℕ) (ol
     → (h : HasServed users left written earlier old) → Takes users earlier old new closes answer
     → (f : Further users left written earlier new closes answer) × (f.before ≡ exchanges_bytes users 0 (exchanges users [] h.calls h.marks))
 further users left written earlier old new closes answer h t =
-    let entries : old.entries ≡ entries_after users [] h.calls h.marks = h.entries_are in
-    (record {
-      calls = h.calls ++ t.call ∷ [];
-      marks = h.marks ++ t.replies.memory ∷ [];
-      front = h.front ++ t.bytes;
-      earlier_calls = h.calls;
-      taken = Consumes-trans left (ahead old) (ahead new) h.front t.bytes h.taken t.took;
-      are_calls = AreCalls-more h.front t.bytes h.calls t.call h.are_calls t.is_call;
-      each_answered = omega (arith, length-append h.marks (t.replies.memory ∷ []), length-append h.calls (t.call ∷ []), h.each_answered);
-      count = omega (arith, length-append h.calls (t.call ∷ []), h.count);
-      ends = asks_end-more h.calls t.call ∙ (ap (λ b. b || t.call.close) h.none_ends ∙ t.closes_is);
-      none_earlier = ap asks_end (all_but_last-more h.calls t.call) ∙ h.none_ends;
-      entries_are = t.replies.kept ∙ (ap (λ es. after users es t.call t.replies.memory) entries ∙ sym (entries_after-more users [] h.calls h.marks t.call t.replies.memory h.each_answered));
-      before = exchanges_bytes users 0 (exchanges users [] h.calls h.marks);
-      bytes_are = answers-more users earlier h.calls h.marks t.call t.replies.memory h.each_answered h.count
-          ∙ ap (λ l. exchanges_bytes users 0 (exchanges users [] h.calls h.marks) ++ l)
-              (ap (λ es. exchange_bytes users earlier (record { call = t.call; entries = es; memory = t.replies.memory })) (sym entries) ∙ sym t.replies.answer_is);
-    }, refl)
+    let entries : old.entries ≡ entries_after users [] h.calls h.marks = h.entries_are in (
+      record {
+        calls = h.calls ++ t.call ∷ [];
+        marks = h.marks ++ t.replies.memory ∷ [];
+        front = h.front ++ t.bytes;
+        earlier_calls = h.calls;
+        taken = Consumes-trans left (ahead old) (ahead new) h.front t.bytes h.taken t.took;
+        are_calls = AreCalls-more h.front t.bytes h.calls t.call h.are_calls t.is_call;
+        each_answered = omega (arith, length-append h.marks (t.replies.memory ∷ []), length-append h.calls (t.call ∷ []), h.each_answered);
+        count = omega (arith, length-append h.calls (t.call ∷ []), h.count);
+        ends = asks_end-more h.calls t.call ∙ (ap (λ b. b || t.call.close) h.none_ends ∙ t.closes_is);
+        none_earlier = ap asks_end (all_but_last-more h.calls t.call) ∙ h.none_ends;
+        entries_are = t.replies.kept ∙ (ap (λ es. after users es t.call t.replies.memory) entries ∙ sym (entries_after-more users [] h.calls h.marks t.call t.replies.memory h.each_answered));
+        before = exchanges_bytes users 0 (exchanges users [] h.calls h.marks);
+        bytes_are = answers-more users earlier h.calls h.marks t.call t.replies.memory h.each_answered h.count
+            ∙ ap (λ l. exchanges_bytes users 0 (exchanges users [] h.calls h.marks) ++ l)
+            (ap (λ es. exchange_bytes users earlier (record { call = t.call; entries = es; memory = t.replies.memory })) (sym entries) ∙ sym t.replies.answer_is);
+      },
+      refl,
+    )
 
 -- a turn that goes on
 pub has_served-next : (users : Users) (left written : Option (List ℕ)) (earlier : ℕ) (old new : Moment)
@@ -200,80 +202,177 @@ some-more a b c front bytes p q =
 -- a turn that ends the connection
 pub has_served-ended : (users : Users) (left written : Option (List ℕ)) (earlier : ℕ) (old new : Moment) (e : End) → earlier < request_limit
     → HasServed users left written earlier old → TurnsTo users earlier old new e → Ended users left written new e
-has_served-ended users left written earlier old new end.Closed within h t = (h.calls, h.marks, record {
-  front = h.front; rest = new.held; taken = taken-rest left old new h.front h.taken t.0.0; are_calls = h.are_calls; each_answered = h.each_answered;
-  within = omega (arith, h.count); none_earlier = none_before h; ends_by = (h.none_ends, omega (arith, h.count), t.1, t.2);
-  written = Appends-kept written old.written new.written _ h.wrote t.0.1;
-})
+has_served-ended users left written earlier old new end.Closed within h t = (
+  h.calls,
+  h.marks,
+  record {
+    front = h.front;
+    rest = new.held;
+    taken = taken-rest left old new h.front h.taken t.0.0;
+    are_calls = h.are_calls;
+    each_answered = h.each_answered;
+    within = omega (arith, h.count);
+    none_earlier = none_before h;
+    ends_by = (h.none_ends, omega (arith, h.count), t.1, t.2);
+    written = Appends-kept written old.written new.written _ h.wrote t.0.1;
+  },
+)
 has_served-ended users left written earlier old new end.Asked within h t =
     let both = further users left written earlier old new true t.answer h t.takes in
-    let f : Further users left written earlier new true t.answer = both.0 in (f.calls, f.marks, record {
-  front = f.front; rest = new.held; taken = taken-all left new.left new.held f.front f.taken; are_calls = f.are_calls; each_answered = f.each_answered;
-  within = omega (arith, f.count); none_earlier = f.none_earlier; ends_by = f.ends;
-  written = subst (λ bytes. Appends written new.written bytes) (ap (λ l. l ++ t.answer) (sym both.1) ∙ sym f.bytes_are)
-      (Appends-trans written old.written new.written _ t.answer h.wrote t.wrote);
-})
+    let f : Further users left written earlier new true t.answer = both.0 in (
+      f.calls,
+      f.marks,
+      record {
+        front = f.front;
+        rest = new.held;
+        taken = taken-all left new.left new.held f.front f.taken;
+        are_calls = f.are_calls;
+        each_answered = f.each_answered;
+        within = omega (arith, f.count);
+        none_earlier = f.none_earlier;
+        ends_by = f.ends;
+        written = subst (λ bytes. Appends written new.written bytes) (ap (λ l. l ++ t.answer) (sym both.1) ∙ sym f.bytes_are)
+            (Appends-trans written old.written new.written _ t.answer h.wrote t.wrote);
+      },
+    )
 has_served-ended users left written earlier old new end.Full within h t = absurd t
-has_served-ended users left written earlier old new end.Cut within h t = (h.calls, h.marks, record {
-  front = h.front; rest = new.held; taken = taken-rest left old new h.front h.taken t.0.0; are_calls = h.are_calls; each_answered = h.each_answered;
-  within = omega (arith, h.count); none_earlier = none_before h; ends_by = (h.none_ends, omega (arith, h.count), t.1, t.2, t.3);
-  written = Appends-kept written old.written new.written _ h.wrote t.0.1;
-})
-has_served-ended users left written earlier old new end.Refused within h t = (h.calls, h.marks, record {
-  front = h.front; rest = new.held; taken = taken-rest left old new h.front h.taken t.0; are_calls = h.are_calls; each_answered = h.each_answered;
-  within = omega (arith, h.count); none_earlier = none_before h; ends_by = (h.none_ends, omega (arith, h.count), t.1);
-  written = Appends-trans written old.written new.written _ bad_request_bytes h.wrote t.2;
-})
-has_served-ended users left written earlier old new end.ReadFault within h t = (h.calls, h.marks, record {
-  front = h.front; rest = new.held; taken = taken-rest left old new h.front h.taken t.0; are_calls = h.are_calls; each_answered = h.each_answered;
-  within = omega (arith, h.count); none_earlier = none_before h; ends_by = tt;
-  written = Appends-kept written old.written new.written _ h.wrote t.1;
-})
+has_served-ended users left written earlier old new end.Cut within h t = (
+  h.calls,
+  h.marks,
+  record {
+    front = h.front;
+    rest = new.held;
+    taken = taken-rest left old new h.front h.taken t.0.0;
+    are_calls = h.are_calls;
+    each_answered = h.each_answered;
+    within = omega (arith, h.count);
+    none_earlier = none_before h;
+    ends_by = (h.none_ends, omega (arith, h.count), t.1, t.2, t.3);
+    written = Appends-kept written old.written new.written _ h.wrote t.0.1;
+  },
+)
+has_served-ended users left written earlier old new end.Refused within h t = (
+  h.calls,
+  h.marks,
+  record {
+    front = h.front;
+    rest = new.held;
+    taken = taken-rest left old new h.front h.taken t.0;
+    are_calls = h.are_calls;
+    each_answered = h.each_answered;
+    within = omega (arith, h.count);
+    none_earlier = none_before h;
+    ends_by = (h.none_ends, omega (arith, h.count), t.1);
+    written = Appends-trans written old.written new.written _ bad_request_bytes h.wrote t.2;
+  },
+)
+has_served-ended users left written earlier old new end.ReadFault within h t = (
+  h.calls,
+  h.marks,
+  record {
+    front = h.front;
+    rest = new.held;
+    taken = taken-rest left old new h.front h.taken t.0;
+    are_calls = h.are_calls;
+    each_answered = h.each_answered;
+    within = omega (arith, h.count);
+    none_earlier = none_before h;
+    ends_by = tt;
+    written = Appends-kept written old.written new.written _ h.wrote t.1;
+  },
+)
 has_served-ended users left written earlier old new end.WriteFault within h (inl t) =
     let both = further users left written earlier old new t.closes t.answer h t.takes in
-    let f : Further users left written earlier new t.closes t.answer = both.0 in (f.calls, f.marks, record {
-  front = f.front; rest = new.held; taken = taken-all left new.left new.held f.front f.taken; are_calls = f.are_calls; each_answered = f.each_answered;
-  within = omega (arith, f.count); none_earlier = f.none_earlier; ends_by = tt;
-  written = inl (subst (λ bytes. AppendsPart written new.written bytes) (ap (λ l. l ++ t.answer) (sym both.1) ∙ sym f.bytes_are)
-      (some-more written old.written new.written _ t.answer h.wrote t.wrote));
-})
-has_served-ended users left written earlier old new end.WriteFault within h (inr t) = (h.calls, h.marks, record {
-  front = h.front; rest = new.held; taken = taken-rest left old new h.front h.taken t.0; are_calls = h.are_calls; each_answered = h.each_answered;
-  within = omega (arith, h.count); none_earlier = none_before h; ends_by = tt;
-  written = inr (t.1, some-more written old.written new.written _ bad_request_bytes h.wrote t.2);
-})
-has_served-ended users left written earlier old new end.Memory within h t = (h.calls, h.marks, record {
-  front = h.front; rest = new.held; taken = taken-rest left old new h.front h.taken t.0; are_calls = h.are_calls; each_answered = h.each_answered;
-  within = omega (arith, h.count); none_earlier = none_before h; ends_by = tt;
-  written = Appends-kept written old.written new.written _ h.wrote t.1;
-})
+    let f : Further users left written earlier new t.closes t.answer = both.0 in (
+      f.calls,
+      f.marks,
+      record {
+        front = f.front;
+        rest = new.held;
+        taken = taken-all left new.left new.held f.front f.taken;
+        are_calls = f.are_calls;
+        each_answered = f.each_answered;
+        within = omega (arith, f.count);
+        none_earlier = f.none_earlier;
+        ends_by = tt;
+        written = inl (subst (λ bytes. AppendsPart written new.written bytes) (ap (λ l. l ++ t.answer) (sym both.1) ∙ sym f.bytes_are)
+            (some-more written old.written new.written _ t.answer h.wrote t.wrote));
+      },
+    )
+has_served-ended users left written earlier old new end.WriteFault within h (inr t) = (
+  h.calls,
+  h.marks,
+  record {
+    front = h.front;
+    rest = new.held;
+    taken = taken-rest left old new h.front h.taken t.0;
+    are_calls = h.are_calls;
+    each_answered = h.each_answered;
+    within = omega (arith, h.count);
+    none_earlier = none_before h;
+    ends_by = tt;
+    written = inr (t.1, some-more written old.written new.written _ bad_request_bytes h.wrote t.2);
+  },
+)
+has_served-ended users left written earlier old new end.Memory within h t = (
+  h.calls,
+  h.marks,
+  record {
+    front = h.front;
+    rest = new.held;
+    taken = taken-rest left old new h.front h.taken t.0;
+    are_calls = h.are_calls;
+    each_answered = h.each_answered;
+    within = omega (arith, h.count);
+    none_earlier = none_before h;
+    ends_by = tt;
+    written = Appends-kept written old.written new.written _ h.wrote t.1;
+  },
+)
 
 -- so many requests were answered as one connection may have
 pub has_served-full : (users : Users) (left written : Option (List ℕ)) (earlier : ℕ) (now : Moment) → earlier ≡ request_limit
     → HasServed users left written earlier now → Ended users left written now end.Full
-has_served-full users left written earlier now all h = (h.calls, h.marks, record {
-  front = h.front; rest = now.held; taken = taken-all left now.left now.held h.front h.taken; are_calls = h.are_calls; each_answered = h.each_answered;
-  within = omega (arith, h.count); none_earlier = none_before h; ends_by = (h.none_ends, h.count ∙ all);
-  written = h.wrote;
-})
+has_served-full users left written earlier now all h = (
+  h.calls,
+  h.marks,
+  record {
+    front = h.front;
+    rest = now.held;
+    taken = taken-all left now.left now.held h.front h.taken;
+    are_calls = h.are_calls;
+    each_answered = h.each_answered;
+    within = omega (arith, h.count);
+    none_earlier = none_before h;
+    ends_by = (h.none_ends, h.count ∙ all);
+    written = h.wrote;
+  },
+)
 
 -- ---- a turn, from what the reader and the answer did
 
 pub turned : (users : Users) (earlier : ℕ) (old new : Moment) (call : Call) (s : Step) → (bytes : List ℕ) × IsCall bytes call × Consumes (ahead old) (ahead new) bytes
     → Answers users earlier call old.entries new.entries old.written new.written s → Turns users earlier old new s
 turned users earlier old new call step.Next r a = record {
-  answer = a.0; takes = record { call = call; bytes = r.0; is_call = r.1; took = r.2; closes_is = a.3; replies = a.1 }; wrote = a.2;
+  answer = a.0;
+  takes = record { call = call; bytes = r.0; is_call = r.1; took = r.2; closes_is = a.3; replies = a.1 };
+  wrote = a.2;
 }
 turned users earlier old new call (step.Ended end.Closed) r a = absurd a
 turned users earlier old new call (step.Ended end.Asked) r a = record {
-  answer = a.0; takes = record { call = call; bytes = r.0; is_call = r.1; took = r.2; closes_is = a.3; replies = a.1 }; wrote = a.2;
+  answer = a.0;
+  takes = record { call = call; bytes = r.0; is_call = r.1; took = r.2; closes_is = a.3; replies = a.1 };
+  wrote = a.2;
 }
 turned users earlier old new call (step.Ended end.Full) r a = absurd a
 turned users earlier old new call (step.Ended end.Cut) r a = absurd a
 turned users earlier old new call (step.Ended end.Refused) r a = absurd a
 turned users earlier old new call (step.Ended end.ReadFault) r a = absurd a
 turned users earlier old new call (step.Ended end.WriteFault) r a = inl (record {
-  closes = call.close; answer = a.0; takes = record { call = call; bytes = r.0; is_call = r.1; took = r.2; closes_is = refl; replies = a.1 }; wrote = a.2;
+  closes = call.close;
+  answer = a.0;
+  takes = record { call = call; bytes = r.0; is_call = r.1; took = r.2; closes_is = refl; replies = a.1 };
+  wrote = a.2;
 })
 turned users earlier old new call (step.Ended end.Memory) r a = absurd a
 

@@ -9,17 +9,21 @@ use crate::account::data_of;
 use crate::answered::{Answered, Reply};
 use crate::asked::{Asked, asked_of};
 use crate::entry::Entry;
-use mx_http::query;
 use crate::refusal::Refusal;
 use crate::sync_query::since_of;
-use mx_http::Call;
+use mx_http::{Call, query};
 use mx_ids::{Copied, Device, Memory, SyncToken, Text, UserId, Users};
 use mx_json::{Json, JsonFault, read};
 use std::alloc::Global;
 
 /// What a call is answered on the stored entries: the first refusal that applies, or what it asks.
 #[tactic(auto, unfolding(crate::specs::Answers::answer_to))]
-pub fn answer_to(alloc: Global, users: &Users, entries: &[Entry], call: &Call) -> Result<Answered, Memory>
+pub fn answer_to(
+    alloc: Global,
+    users: &Users,
+    entries: &[Entry],
+    call: &Call,
+) -> Result<Answered, Memory>
     requires { IsUsers users.now }
     ensures { IfOk result (λ answered. answered ≡ answer_to users.now entries.now call.now) }
 {
@@ -33,7 +37,13 @@ pub fn answer_to(alloc: Global, users: &Users, entries: &[Entry], call: &Call) -
 }
 
 /// What the caller is answered.
-fn answer_caller(alloc: Global, caller: &UserId, entries: &[Entry], call: &Call, asked: Asked) -> Result<Answered, Memory>
+fn answer_caller(
+    alloc: Global,
+    caller: &UserId,
+    entries: &[Entry],
+    call: &Call,
+    asked: Asked,
+) -> Result<Answered, Memory>
     ensures { IfOk result (λ answered. answered ≡ caller_answered caller.now entries.now call.now asked) }
 {
     match asked {
@@ -72,7 +82,13 @@ fn user_of<'a>(users: &'a Users, device: usize) -> &'a UserId
 }
 
 /// A put of account data (Client-Server API, Client Config).
-fn put_data(alloc: Global, caller: &UserId, user: &Text, kind: Text, body: &[u8]) -> Result<Answered, Memory>
+fn put_data(
+    alloc: Global,
+    caller: &UserId,
+    user: &Text,
+    kind: Text,
+    body: &[u8],
+) -> Result<Answered, Memory>
     ensures { IfOk result (λ answered. answered ≡ put_answered caller.now user.now kind body.now) }
 {
     if caller.as_str() != user.as_str() {
@@ -88,7 +104,12 @@ fn put_data(alloc: Global, caller: &UserId, user: &Text, kind: Text, body: &[u8]
 }
 
 /// A put of this content by its user.
-fn put_content(alloc: Global, caller: &UserId, kind: Text, content: Json) -> Result<Answered, Memory>
+fn put_content(
+    alloc: Global,
+    caller: &UserId,
+    kind: Text,
+    content: Json,
+) -> Result<Answered, Memory>
     ensures { IfOk result (λ answered. answered ≡ value_answered caller.now kind (Ok content)) }
 {
     if !is_object(&content) {
@@ -119,7 +140,12 @@ fn is_own_type(kind: &str) -> bool
 }
 
 /// A sync (Client-Server API, Syncing).
-fn sync(alloc: Global, caller: &UserId, entries: &[Entry], target: &Text) -> Result<Answered, Memory>
+fn sync(
+    alloc: Global,
+    caller: &UserId,
+    entries: &[Entry],
+    target: &Text,
+) -> Result<Answered, Memory>
     ensures { IfOk result (λ answered. answered ≡ sync_answered caller.now entries.now (since_of (parameters (query_of target.now)))) }
 {
     let pairs = query(alloc, target)?;
@@ -130,7 +156,12 @@ fn sync(alloc: Global, caller: &UserId, entries: &[Entry], target: &Text) -> Res
 }
 
 /// A sync that follows a token.
-fn sync_since(alloc: Global, caller: &UserId, entries: &[Entry], since: Option<SyncToken>) -> Result<Answered, Memory>
+fn sync_since(
+    alloc: Global,
+    caller: &UserId,
+    entries: &[Entry],
+    since: Option<SyncToken>,
+) -> Result<Answered, Memory>
     ensures { IfOk result (λ answered. answered ≡ sync_answered caller.now entries.now (Ok since)) }
 {
     let front = entries.len() as u64;
@@ -175,16 +206,28 @@ fn ahead_of(token: SyncToken, front: u64) -> Option<Refusal>
     ensures within { IfNone result (token.a ≤ front) }
 {
     if 0 < token.e {
-        return Some(Refusal::TokenAhead { asked: token.e, front: 0 });
+        return Some(Refusal::TokenAhead {
+            asked: token.e,
+            front: 0,
+        });
     }
     if 0 < token.r {
-        return Some(Refusal::TokenAhead { asked: token.r, front: 0 });
+        return Some(Refusal::TokenAhead {
+            asked: token.r,
+            front: 0,
+        });
     }
     if front < token.a {
-        return Some(Refusal::TokenAhead { asked: token.a, front });
+        return Some(Refusal::TokenAhead {
+            asked: token.a,
+            front,
+        });
     }
     if 0 < token.d {
-        return Some(Refusal::TokenAhead { asked: token.d, front: 0 });
+        return Some(Refusal::TokenAhead {
+            asked: token.d,
+            front: 0,
+        });
     }
     None
 }

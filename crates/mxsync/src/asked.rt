@@ -18,7 +18,9 @@ pub enum Asked {
 }
 
 const SYNC_PATH: &str = "/_matrix/client/v3/sync";
+
 const USER_PREFIX: &str = "/_matrix/client/v3/user/";
+
 const DATA_PREFIX: &str = "account_data/";
 
 /// What the call asks, by its method and path; `None` where no call is served there.

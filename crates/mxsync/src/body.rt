@@ -15,7 +15,10 @@ pub fn refusal_json(alloc: Global, refusal: Refusal) -> Result<Json, Memory>
     ensures { IfOk result (λ json. json ≡ refusal_json refusal) }
 {
     let mut object = Members::new(alloc);
-    object.push(text(alloc, "errcode")?, Json::Text(text(alloc, refusal.code())?))?;
+    object.push(
+        text(alloc, "errcode")?,
+        Json::Text(text(alloc, refusal.code())?),
+    )?;
     object.push(text(alloc, "error")?, Json::Text(refusal.text(alloc)?))?;
     Ok(Json::Object(object))
 }
@@ -25,8 +28,14 @@ pub fn reply_json(alloc: Global, reply: Reply) -> Result<Json, Memory>
     ensures { IfOk result (λ json. json ≡ reply_json reply) }
 {
     let mut object = Members::new(alloc);
-    object.push(text(alloc, "account_data")?, account_json(alloc, reply.account)?)?;
-    object.push(text(alloc, "next_batch")?, Json::Text(token_text(alloc, reply.next)?))?;
+    object.push(
+        text(alloc, "account_data")?,
+        account_json(alloc, reply.account)?,
+    )?;
+    object.push(
+        text(alloc, "next_batch")?,
+        Json::Text(token_text(alloc, reply.next)?),
+    )?;
     object.push(text(alloc, "rooms")?, rooms_json(alloc)?)?;
     Ok(Json::Object(object))
 }

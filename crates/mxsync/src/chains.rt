@@ -8,5 +8,4 @@ ghost use Rattle.mxsync.specs.Chains.{ChainsAgree};
 /// data of its user (Client-Server API, Syncing).
 pub fn chains_agree()
     ensures { (users : Users) (calls : List Call) (marks : List Bool) → ChainsAgree users calls marks }
-{
-}
+{}

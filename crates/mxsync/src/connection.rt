@@ -70,7 +70,15 @@ pub fn serve_connection<S: Source, K: Sink>(
     };
     let mut entries = Seq::new(alloc);
     'turns: for earlier in 0..REQUEST_LIMIT {
-        match turn(alloc, users, earlier, &mut entries, &mut requests, input, output) {
+        match turn(
+            alloc,
+            users,
+            earlier,
+            &mut entries,
+            &mut requests,
+            input,
+            output,
+        ) {
             Step::Next => {}
             Step::Ended(end) => return end,
         }

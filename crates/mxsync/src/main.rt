@@ -27,7 +27,7 @@ use std::io::ErrorKind;
 use std::process::ExitCode;
 
 fn main(rt: HostRuntime) -> ExitCode {
-    let Ok(words) = words(&rt) else {
+    let Ok(words) = program_words(&rt) else {
         return ExitCode::from(Status::Memory as u8);
     };
     let mut files = HostFiles::new(rt);
@@ -35,12 +35,19 @@ fn main(rt: HostRuntime) -> ExitCode {
     let mut output = StdOut::new(rt.stdout());
     let mut errors = StdErr::new(rt.stderr());
     let alloc = rt.alloc();
-    let status = run(alloc, words.as_slice(), &mut files, &mut input, &mut output, &mut errors);
+    let status = run(
+        alloc,
+        words.as_slice(),
+        &mut files,
+        &mut input,
+        &mut output,
+        &mut errors,
+    );
     ExitCode::from(status)
 }
 
 /// The words after the program's name. One that isn't UTF-8 makes the whole no words at all.
-fn words(rt: &HostRuntime) -> Result<Vec<String>, Memory> {
+fn program_words(rt: &HostRuntime) -> Result<Vec<String>, Memory> {
     let mut words = Vec::new(rt.alloc());
     let args = match env::args(rt) {
         Ok(args) => args,

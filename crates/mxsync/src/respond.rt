@@ -17,7 +17,12 @@ use std::alloc::Global;
 
 /// Answers a call on the stored entries, and stores the entry of a put behind them. `Memory` leaves the entries as
 /// they were.
-pub fn respond(alloc: Global, users: &Users, entries: &mut Seq<Entry>, call: &Call) -> Result<Answer, Memory>
+pub fn respond(
+    alloc: Global,
+    users: &Users,
+    entries: &mut Seq<Entry>,
+    call: &Call,
+) -> Result<Answer, Memory>
     requires { IsUsers users.now }
     ensures status { IfOk result (λ a. a.status ≡ status_by (answer_to users.now entries.old call.now)) }
     ensures body { IfOk result (λ a. body_text a.body ≡ json_text (json_by (answer_to users.now entries.old call.now))) }

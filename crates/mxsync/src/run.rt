@@ -50,12 +50,12 @@ pub fn run<F: Files, S: Source, K: Sink, E: Sink>(
     errors: &mut E,
 ) -> u8
     ensures ran { (s : Status) × (result ≡ number_of s) × Ran words.now (record {
-        file = F.told files.old;
-        left = change (S.left input.old) (S.left input.new);
-        written = change (K.written output.old) (K.written output.new);
-        file_faults = change (F.faults files.old) (F.faults files.new);
-        read_faults = change (S.faults input.old) (S.faults input.new);
-        write_faults = change (K.faults output.old) (K.faults output.new);
+      file = F.told files.old;
+      left = change (S.left input.old) (S.left input.new);
+      written = change (K.written output.old) (K.written output.new);
+      file_faults = change (F.faults files.old) (F.faults files.new);
+      read_faults = change (S.faults input.old) (S.faults input.new);
+      write_faults = change (K.faults output.old) (K.faults output.new);
     }) s }
     ensures usage { result ≡ 2 ↔ ((name : List ℕ) → AreWords words.now name → ⊥) }
     ensures outside { result ≡ 4 → Rose (F.faults files.old) (F.faults files.new) ⊎ (Rose (S.faults input.old) (S.faults input.new) ⊎ Rose (K.faults output.old) (K.faults output.new)) }
@@ -75,12 +75,12 @@ fn run_words<F: Files, S: Source, K: Sink>(
     output: &mut K,
 ) -> Status
     ensures { Ran words.now (record {
-        file = F.told files.old;
-        left = change (S.left input.old) (S.left input.new);
-        written = change (K.written output.old) (K.written output.new);
-        file_faults = change (F.faults files.old) (F.faults files.new);
-        read_faults = change (S.faults input.old) (S.faults input.new);
-        write_faults = change (K.faults output.old) (K.faults output.new);
+      file = F.told files.old;
+      left = change (S.left input.old) (S.left input.new);
+      written = change (K.written output.old) (K.written output.new);
+      file_faults = change (F.faults files.old) (F.faults files.new);
+      read_faults = change (S.faults input.old) (S.faults input.new);
+      write_faults = change (K.faults output.old) (K.faults output.new);
     }) result }
 {
     match users_file(words) {
@@ -98,12 +98,12 @@ fn run_over<F: Files, S: Source, K: Sink>(
     output: &mut K,
 ) -> Status
     ensures { RanOver (record {
-        file = F.told files.old;
-        left = change (S.left input.old) (S.left input.new);
-        written = change (K.written output.old) (K.written output.new);
-        file_faults = change (F.faults files.old) (F.faults files.new);
-        read_faults = change (S.faults input.old) (S.faults input.new);
-        write_faults = change (K.faults output.old) (K.faults output.new);
+      file = F.told files.old;
+      left = change (S.left input.old) (S.left input.new);
+      written = change (K.written output.old) (K.written output.new);
+      file_faults = change (F.faults files.old) (F.faults files.new);
+      read_faults = change (S.faults input.old) (S.faults input.new);
+      write_faults = change (K.faults output.old) (K.faults output.new);
     }) name.now result }
 {
     let bytes = match files.read(alloc, name, USERS_LIMIT) {

@@ -12,10 +12,10 @@ mod tests;
 mod user_list;
 
 use cuts::{cut, cut_line};
-use name_forms::{is_access_token, is_device_name, is_localpart, is_server_name};
-use user_list::UserList;
 use mx_ids::{Memory, Text, UserId, Users, user_id};
+use name_forms::{is_access_token, is_device_name, is_localpart, is_server_name};
 use std::alloc::{AllocError, AllocFailed, Global};
+use user_list::UserList;
 
 /// Why a users file isn't read.
 #[derive(Clone, Copy, Debug, PartialEq, Eq)]

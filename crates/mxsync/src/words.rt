@@ -9,10 +9,9 @@ pub fn users_file(words: &[String]) -> Option<&str>
 {
     match words {
         [users, name, mode, pipe]
-            if users.as_str() == "--users" && mode.as_str() == "--mode" && pipe.as_str() == "pipe" =>
-        {
-            Some(name.as_str())
-        }
+            if users.as_str() == "--users"
+                && mode.as_str() == "--mode"
+                && pipe.as_str() == "pipe" => { Some(name.as_str()) }
         _ => None,
     }
 }

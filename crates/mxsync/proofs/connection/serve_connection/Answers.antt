@@ -18,9 +18,9 @@ pub returns-in-Ended-clause-served : goal.returns-in-Ended-clause-served
 returns-in-Ended-clause-served g c =
     let within : c.turns.earlier < request_limit = omega arith in
     has_served-ended c.args.users.now (g.S.Source.left c.args.input.now) (g.K.Sink.written c.args.output.now) c.turns.earlier
-        (moment c.turns.requests (g.S.Source.left c.turns.input) (g.K.Sink.written c.turns.output) c.turns.entries)
-        (moment c.turn.new.requests (g.S.Source.left c.turn.new.input) (g.K.Sink.written c.turn.new.output) c.turn.new.entries)
-        c.in-Ended.end within c.turns.invariant.served c.in-Ended.ensures.turns
+    (moment c.turns.requests (g.S.Source.left c.turns.input) (g.K.Sink.written c.turns.output) c.turns.entries)
+    (moment c.turn.new.requests (g.S.Source.left c.turn.new.input) (g.K.Sink.written c.turn.new.output) c.turn.new.entries)
+    c.in-Ended.end within c.turns.invariant.served c.in-Ended.ensures.turns
 
 pub turns-preserved : goal.turns-preserved
 turns-preserved g c = record {
@@ -36,4 +36,4 @@ pub returns-clause-served : goal.returns-clause-served
 returns-clause-served g c =
     let all : c.turns.earlier ≡ request_limit = omega arith in
     has_served-full c.args.users.now (g.S.Source.left c.args.input.now) (g.K.Sink.written c.args.output.now) c.turns.earlier
-        (moment c.turns.requests (g.S.Source.left c.turns.input) (g.K.Sink.written c.turns.output) c.turns.entries) all c.turns.invariant.served
+    (moment c.turns.requests (g.S.Source.left c.turns.input) (g.K.Sink.written c.turns.output) c.turns.entries) all c.turns.invariant.served
