@@ -214,7 +214,7 @@ struct Outcome {
     errors: Vec<u8>,
 }
 
-fn outcome(alloc: Global, case: &Case) -> Result<Outcome, Memory>
+fn run_case(alloc: Global, case: &Case) -> Result<Outcome, Memory>
     requires { 0 < case.now.piece }
 {
     let mut words = Vec::new(alloc);
@@ -259,7 +259,7 @@ fn expect(
 ) -> Result<(), Memory>
     requires { 0 < case.now.piece }
 {
-    let outcome = outcome(alloc, case)?;
+    let outcome = run_case(alloc, case)?;
     assert_eq!(rt; outcome.status, status);
     assert!(rt; outcome.output.as_slice() == output.as_bytes());
     assert!(rt; outcome.errors.as_slice() == errors.as_bytes());
