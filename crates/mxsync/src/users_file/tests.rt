@@ -69,7 +69,11 @@ fn a_file_with_a_line_of_another_form_is_broken(rt: HostRuntime) {
 
 #[test]
 fn a_file_that_repeats_a_device_or_a_token_is_broken(rt: HostRuntime) {
-    expect_broken(&rt, rt.alloc(), "server h\nalice PHONE ta\nalice PHONE tb\n");
+    expect_broken(
+        &rt,
+        rt.alloc(),
+        "server h\nalice PHONE ta\nalice PHONE tb\n",
+    );
     expect_broken(&rt, rt.alloc(), "server h\nalice PHONE ta\nbob PHONE ta\n");
 }
 
