@@ -14,7 +14,7 @@ mod user_list;
 use cuts::{cut, cut_line};
 use mx_ids::{Memory, Text, UserId, Users, user_id};
 use name_forms::{is_access_token, is_device_name, is_localpart, is_server_name};
-use std::alloc::{AllocError, AllocFailed, Global};
+use std::alloc::{AllocFailed, Global};
 use user_list::UserList;
 
 /// Why a users file isn't read.
@@ -33,17 +33,6 @@ impl From<Memory> for UsersFault {
     ghost from_gives = { λ _ e. e ≡ faults.Memory };
 
     fn from(_refused: Memory) -> UsersFault {
-        UsersFault::Memory
-    }
-}
-
-impl From<AllocError> for UsersFault {
-    ghost use Rattle.std.specs.Prelude.{◌≡◌};
-    ghost use Rattle.mxsync.specs.declared.users_file.UsersFault.TheVariants as faults;
-
-    ghost from_gives = { λ _ e. e ≡ faults.Memory };
-
-    fn from(_refused: AllocError) -> UsersFault {
         UsersFault::Memory
     }
 }
@@ -99,11 +88,10 @@ fn read_text(alloc: Global, text: &str) -> Result<Users, UsersFault>
 
 /// The list with the users and devices of the lines of `text`. `Broken` exactly where a line may
 /// not follow those before it.
-fn read_lines(alloc: Global, list: UserList, text: &str) -> Result<UserList, UsersFault>
+fn read_lines(alloc: Global, mut list: UserList, text: &str) -> Result<UserList, UsersFault>
     ensures found { IfOk result (λ l. with_lines list.users (lines_of text.now) ≡ Some l.users) }
     ensures broken { IsErrOf result UsersFault.Broken → with_lines list.users (lines_of text.now) ≡ None }
 {
-    let mut list = list;
     let mut rest = text;
     'lines: while let Some((line, after)) = next_line(rest) {
         list = read_line(alloc, list, line)?;
