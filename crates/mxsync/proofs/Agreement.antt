@@ -1,7 +1,7 @@
 -- The chain of each device agrees with the picture at its token.
-use Rattle.std.proofs.Common.{◌≡◌, ℕ, ◌+◌, ◌≤◌, ◌&&◌, List, [], ◌∷◌, ◌++◌, take, drop, length, Bool, true, false, cond, Option, Some, None, Result, Ok, Err, option_and_then, IfSome, bytes_eq, nat_eq, nat_lt, refl, sym, ap, ◌∙◌, subst, append-nil, arith, length-append}
+use Rattle.std.proofs.Common.{◌≡◌, ℕ, ◌≤◌, ◌&&◌, List, [], ◌∷◌, ◌++◌, take, drop, length, Bool, true, false, cond, Option, Some, None, Result, Ok, Err, option_and_then, IfSome, bytes_eq, nat_eq, refl, sym, ap, ◌∙◌, subst, append-nil, arith, length-append}
 use Rattle.std.specs.Prelude.{⊤}
-use Rattle.std.proofs.lemmas.Bool.{cases_Bool, and_parts, eqb-true, true≢false}
+use Rattle.std.proofs.lemmas.Bool.{cases_Bool, and_parts, eqb-true}
 use Rattle.std.proofs.lemmas.List.{take-append-le, take-append-drop, take_all}
 use Rattle.std.specs.Option.{option_or}
 use mathlib.Core.Logic.{⊎_elim}
@@ -15,7 +15,6 @@ use Rattle.mx_http.specs.declared.call.Call.{Call}
 use Rattle.mx_http.specs.Queries.{query_of, parameters}
 use Rattle.mxsync.specs.declared.answered.Answered.{Answered}
 use Rattle.mxsync.specs.declared.answered.Answered.TheVariants as answered
-use Rattle.mxsync.specs.declared.answered.Reply.{Reply}
 use Rattle.mxsync.specs.declared.asked.Asked.{Asked}
 use Rattle.mxsync.specs.declared.asked.Asked.TheVariants as asked
 use Rattle.mxsync.specs.declared.entry.Entry.{Entry}
@@ -23,7 +22,7 @@ use Rattle.mxsync.specs.declared.refusal.Parameter.{Parameter}
 use Rattle.mxsync.specs.declared.refusal.Refusal.{Refusal}
 use Rattle.mxsync.specs.declared.refusal.Refusal.TheVariants as refusal
 use Rattle.mxsync.specs.Accounts.{data_of}
-use Rattle.mxsync.specs.Answers.{ahead_of, answer_to, asked_answered, caller_answered, device_answered, device_of, is_object, is_own_type, put_answered, reply_to, stored_by, sync_answered, unless_refused, user_of, value_answered}
+use Rattle.mxsync.specs.Answers.{ahead_of, answer_to, asked_answered, caller_answered, device_answered, device_of, is_object, is_own_type, reply_to, stored_by, sync_answered, unless_refused, user_of, value_answered}
 use Rattle.mxsync.specs.Chains.{Agrees, Client, after_reply, chain, content_at, is_of_device, last_content, new_client, same_token, with_answer, with_exchange, with_reply}
 use Rattle.mxsync.specs.Exchanges.{after, entries_after, exchanges}
 use Rattle.mxsync.specs.Queries.{since_of}

@@ -1,5 +1,5 @@
 -- A map of references to types and contents, seen as account data.
-use Rattle.std.proofs.Common.{◌≡◌, ℕ, List, [], ◌∷◌, Bool, true, false, cond, filter, fold, map, Ordering, Less, Equal, Greater, nat_cmp, Bor, refl, ap, ◌∙◌}
+use Rattle.std.proofs.Common.{◌≡◌, ℕ, List, [], ◌∷◌, Bool, true, false, cond, filter, fold, map, Ordering, Less, Equal, Greater, nat_cmp, Bor, refl, ap, ap₂, sym, ◌∙◌}
 use Rattle.std.specs.BTreeMap.{insert_entry}
 use Rattle.std.specs.Cmp.Lexicographic.{slice_cmp}
 use Rattle.std.specs.Ordering.{match_ordering}
@@ -40,3 +40,10 @@ one_entry user known made e es is = ap (λ m. fold set_entry m (filter (λ x. by
         ≡ fold set_entry known (cond b (e ∷ filter (λ x. bytes_eq x.user user) es) (filter (λ x. bytes_eq x.user user) es))
     chosen true = refl
     chosen false = refl
+
+-- an entry that is set, behind references
+pub set_now : (es now : List (Bor (List ℕ) × Bor Json)) (k : Bor (List ℕ)) (v : Bor Json) (b : Bool) (e : Entry) → b ≡ true → k.now ≡ e.kind → v.now ≡ e.content
+    → now ≡ insert_entry cmp_now es k v → map pair_now now ≡ cond b (set_entry (map pair_now es) e) (map pair_now es)
+set_now es now k v b e test kind content is =
+    ap (map pair_now) is ∙ insert_now es k v ∙ ap₂ (insert_entry (slice_cmp nat_cmp) (map pair_now es)) kind content
+    ∙ ap (λ (t : Bool). cond t (set_entry (map pair_now es) e) (map pair_now es)) (sym test)

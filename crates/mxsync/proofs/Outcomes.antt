@@ -6,7 +6,7 @@ use Rattle.mxsync.specs.declared.connection.End.{End}
 use Rattle.mxsync.specs.declared.connection.End.TheVariants as end
 use Rattle.mxsync.specs.declared.run.Status.{Status}
 use Rattle.mxsync.specs.declared.run.Status.TheVariants as status
-use Rattle.mxsync.specs.Runs.{World, HasRisen, IsCause, Ran, RanOver, Served, number_of, status_of, users_limit}
+use Rattle.mxsync.specs.Runs.{World, HasRisen, IsCause, Ran, RanOver, number_of, status_of, users_limit}
 use Rattle.mxsync.specs.UsersFile.{users_of}
 
 -- the users that were read are those of the file

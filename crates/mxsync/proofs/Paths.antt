@@ -1,7 +1,6 @@
 -- What follows a prefix.
-use Rattle.std.proofs.Common.{◌≡◌, List, ℕ, Option, Some, None, MatchOption, Bor, cond, nat_eq, drop, length, option_map, true, false, refl, sym, ap, ◌∙◌, subst}
+use Rattle.std.proofs.Common.{◌≡◌, List, ℕ, Option, Some, None, MatchOption, Bor, cond, drop, length, option_map, true, false, sym, ap, ◌∙◌, subst}
 use Rattle.std.proofs.lemmas.Str.Pattern.{starts_text}
-use Rattle.std.specs.List.{starts_with}
 use Rattle.std.specs.Str.{IsCharBoundary}
 use Rattle.std.specs.Str.Pattern.{FindsTextPrefix, StripsPrefix}
 use Rattle.mxsync.specs.Routes.{behind}

@@ -285,3 +285,8 @@ all_read s ps i none h = ap (read_from s) (sym none) ∙ h ∙ pairs_read ps
 pub bad_read : (s : Seen) (ps rest : List Pair) (i : ℕ) (p : Pair) (name : Parameter) → drop i ps ≡ p ∷ rest → with_pair s p ≡ Err name
     → read_from s (drop i ps) ≡ read_from nothing ps → Err name ≡ since_of ps
 bad_read s ps rest i p name here bad h = sym (ap (go_on (λ t. read_from t rest)) bad) ∙ ap (read_from s) (sym here) ∙ h ∙ pairs_read ps
+
+-- a pair behind references
+pub same_pair : (s : Seen) (p : Pair) (n v : List ℕ) (r : Result Seen Parameter) (e : Parameter) → n ≡ p.0 → v ≡ p.1 → r ≡ with_pair s (n, v) → r ≡ Err e
+    → with_pair s p ≡ Err e
+same_pair s p n v r e name value is bad = ap (with_pair s) (λ i. (sym name i, sym value i)) ∙ sym is ∙ bad

@@ -1,11 +1,10 @@
 -- What a connection has done, turn by turn.
-use Rattle.std.proofs.Common.{◌≡◌, ℕ, zero, suc, ◌+◌, ◌-◌, ◌<◌, ◌≤◌, ◌⊎◌, inl, inr, List, [], ◌∷◌, ◌++◌, Bool, true, false, ◌||◌, Option, Some, None, length, take, refl, sym, ap, ◌∙◌, subst, append_assoc, append-nil, length-append, add-zero, zero-add, arith, lit<}
-use Rattle.std.specs.List.{list_any}
-use Rattle.std.specs.Io.KnownBytes.{prepend_known, Consumes, Appends, Keeps, IsAtEnd}
+use Rattle.std.proofs.Common.{◌≡◌, ℕ, zero, suc, ◌+◌, ◌-◌, ◌<◌, inl, inr, List, [], ◌∷◌, ◌++◌, Bool, true, false, ◌||◌, Option, Some, None, length, take, refl, sym, ap, ◌∙◌, subst, append_assoc, append-nil, length-append, add-zero, zero-add, arith, lit<}
+use Rattle.std.specs.Io.KnownBytes.{prepend_known, Consumes, Appends, Keeps}
 use Rattle.std.proofs.KnownBytes.{Consumes-nil, Appends-nil, Keeps-refl, Consumes-trans, Appends-trans, Consumes-kept}
 use Rattle.mx_ids.specs.declared.users.Users.{Users}
 use Rattle.mx_http.specs.declared.call.Call.{Call}
-use Rattle.mx_http.specs.Calls.{AreCalls, IsCall, IsFaulty}
+use Rattle.mx_http.specs.Calls.{AreCalls, IsCall}
 use Rattle.mxsync.specs.declared.entry.Entry.{Entry}
 use Rattle.mxsync.specs.declared.connection.End.{End}
 use Rattle.mxsync.specs.declared.connection.End.TheVariants as end
@@ -13,7 +12,7 @@ use Rattle.mxsync.specs.Exchanges.{Exchange, exchange_bytes, exchanges, exchange
 use Rattle.mxsync.specs.Sessions.{AppendsPart, asks_end, all_but_last, IsServed}
 use Rattle.mxsync.specs.declared.connection.Step.{Step}
 use Rattle.mxsync.specs.declared.connection.Step.TheVariants as step
-use Rattle.mxsync.specs.Steps.{Moment, moment, ahead, Answers, Takes, Exchanges, Breaks, Rests, Turns, TurnsTo, HasServed}
+use Rattle.mxsync.specs.Steps.{Moment, moment, ahead, Answers, Takes, Exchanges, Turns, TurnsTo, HasServed}
 
 -- ---- one call more
 

@@ -1,5 +1,5 @@
 -- The token that a text is read as, from what its reader ensures.
-use Rattle.std.proofs.Common.{◌≡◌, ◌+◌, ◌-◌, ◌^◌, List, ℕ, Option, Some, None, Result, Ok, Err, IfOk, refl, sym, ap, ◌∙◌}
+use Rattle.std.proofs.Common.{◌≡◌, ◌-◌, ◌^◌, List, ℕ, Result, Ok, Err, IfOk, refl, sym, ap}
 use Rattle.std.specs.Result.{result_ok}
 use Rattle.mx_ids.specs.Sync.{judged, sync_text, sync_token_at, IsSyncToken}
 use Rattle.mx_ids.specs.declared.sync_token.SyncToken.{SyncToken}

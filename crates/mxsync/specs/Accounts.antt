@@ -1,5 +1,5 @@
 -- The stored account data, in the order in which it was put: the entry at position p is the p-th, from 1.
-use Rattle.std.specs.Prelude.{ℕ, List, [], ◌∷◌, Bool, Option, Some, None, fold, filter, option_map, if◌then◌else◌}
+use Rattle.std.specs.Prelude.{ℕ, List, [], fold, filter}
 use Rattle.std.specs.Str.{bytes_eq}
 use Rattle.std.specs.Ordering.{nat_cmp}
 use Rattle.std.specs.Cmp.Lexicographic.{slice_cmp}

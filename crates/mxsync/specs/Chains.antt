@@ -1,5 +1,5 @@
 -- What a client of the replies to its syncs holds, and what it is to hold: the account data of its user at its token.
-use Rattle.std.specs.Prelude.{◌≡◌, ℕ, ◌&&◌, ◌==◌, List, [], ◌∷◌, Bool, true, false, Option, Some, None, option_map, take, find, filter, if◌then◌else◌, IfSome, nat_eq, Result}
+use Rattle.std.specs.Prelude.{◌≡◌, ℕ, ◌&&◌, List, [], ◌∷◌, Bool, false, Option, Some, None, take, if◌then◌else◌, IfSome, nat_eq}
 use Rattle.std.specs.Option.{option_or}
 use Rattle.std.specs.Str.{bytes_eq}
 use Rattle.mx_ids.specs.declared.sync_token.SyncToken.{SyncToken}

@@ -1,5 +1,5 @@
 -- The parameters of a sync. Of a repeated parameter the first counts, and unknown ones have no effect.
-use Rattle.std.specs.Prelude.{ℕ, ◌-◌, ◌^◌, ◌&&◌, ◌||◌, ◌==◌, List, [], ◌∷◌, Bool, true, false, not, Option, Some, None, Result, Ok, Err, option_and_then, length, filter, find, nat_lt, if◌then◌else◌, codes}
+use Rattle.std.specs.Prelude.{ℕ, ◌-◌, ◌^◌, ◌&&◌, ◌||◌, ◌==◌, List, [], ◌∷◌, Bool, false, not, Option, Some, None, Result, Ok, Err, option_and_then, length, filter, nat_lt, if◌then◌else◌, codes}
 use Rattle.std.specs.List.{list_all}
 use Rattle.std.specs.Option.{is_some, option_or}
 use Rattle.std.specs.Result.{result_ok}
@@ -8,7 +8,6 @@ use Rattle.mx_ids.specs.Sync.{judged, sync_token_at}
 use Rattle.mx_ids.specs.declared.sync_token.SyncToken.{SyncToken}
 use Rattle.mxsync.specs.declared.refusal.Parameter.{Parameter}
 use Rattle.mxsync.specs.declared.refusal.Parameter.TheVariants as parameter
-use Rattle.mxsync.specs.Refusals.{parameter_name}
 
 -- the parameter of a name
 abbrev pub parameter_of : List ℕ → Option Parameter

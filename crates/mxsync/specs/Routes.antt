@@ -1,5 +1,5 @@
 -- The two paths that are served, and what a call asks on them.
-use Rattle.std.specs.Prelude.{ℕ, ◌&&◌, ◌||◌, ◌==◌, List, [], ◌∷◌, Bool, not, Option, Some, None, option_map, option_and_then, length, drop, nat_lt, nat_eq, if◌then◌else◌, codes}
+use Rattle.std.specs.Prelude.{ℕ, ◌&&◌, ◌||◌, ◌==◌, List, Bool, not, Option, Some, None, option_map, option_and_then, length, drop, nat_lt, nat_eq, if◌then◌else◌, codes}
 use Rattle.std.specs.List.{list_any, starts_with, before_first, after_first}
 use Rattle.std.specs.Str.{bytes_eq}
 use Rattle.mx_http.specs.declared.call.Call.{Call}

@@ -19,7 +19,10 @@ pub fn since_of(pairs: &[(Text, Text)]) -> Result<Option<SyncToken>, Parameter>
         timeout: false,
     };
     'pairs: for (name, value) in pairs {
-        seen = seen.with_pair(name.as_str(), value.as_str())?;
+        match seen.with_pair(name.as_str(), value.as_str()) {
+            Ok(more) => seen = more,
+            Err(parameter) => return Err(parameter),
+        }
     }
     Ok(seen.since)
 }

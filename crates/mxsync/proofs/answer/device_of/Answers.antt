@@ -1,4 +1,4 @@
-use Rattle.std.proofs.Common.{◌≡◌, ◌∙◌, ap, sym, position, bytes_eq, option_and_then}
+use Rattle.std.proofs.Common.{◌∙◌, ap, sym, position, bytes_eq, option_and_then}
 use Rattle.mx_ids.specs.declared.users.Device.{Device}
 use Rattle.mxsync.proofs.answer.device_of.Goals as goal
 

@@ -1,4 +1,4 @@
-use Rattle.std.proofs.Common.{◌≡◌, ◌∙◌, ap, option_and_then}
+use Rattle.std.proofs.Common.{◌∙◌, ap, option_and_then}
 use Rattle.mxsync.specs.Routes.{data_behind}
 use Rattle.mxsync.proofs.asked.data_path.Goals as goal
 

@@ -1,4 +1,3 @@
-use Rattle.std.proofs.Common.{◌≡◌}
 use Rattle.mxsync.proofs.Replies.{reply_made}
 use Rattle.mxsync.proofs.body.reply_json.Goals as goal
 

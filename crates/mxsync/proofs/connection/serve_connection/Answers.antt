@@ -1,4 +1,4 @@
-use Rattle.std.proofs.Common.{◌+◌, ◌<◌, ◌≤◌, ◌≡◌, arith}
+use Rattle.std.proofs.Common.{◌<◌, ◌≡◌, arith}
 use Rattle.mxsync.specs.Exchanges.{request_limit}
 use Rattle.mxsync.specs.Steps.{moment}
 use Rattle.mxsync.proofs.Served.{has_served-begins, has_served-next, has_served-ended, has_served-full, has_served-none}

@@ -7,4 +7,4 @@ pub returns-in-Ok : goal.returns-in-Ok
 returns-in-Ok c = ap result_ok (sym c.in-Ok.is) ∙ token_read c.args.text.now c.read_sync_token.result c.read_sync_token.ensures.found c.read_sync_token.ensures.back
 
 pub returns-in-Err : goal.returns-in-Err
-returns-in-Err c = ?
+returns-in-Err c = ap result_ok (sym c.in-Err.is) ∙ token_read c.args.text.now c.read_sync_token.result c.read_sync_token.ensures.found c.read_sync_token.ensures.back

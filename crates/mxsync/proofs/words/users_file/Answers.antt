@@ -1,4 +1,4 @@
-use Rattle.std.proofs.Common.{◌≡◌, ◌∙◌, sym}
+use Rattle.std.proofs.Common.{◌∙◌, sym}
 use Rattle.mxsync.proofs.CommandLine.{words_are}
 use Rattle.mxsync.proofs.words.users_file.Goals as goal
 
