@@ -1,0 +1,10 @@
+pub mod Fields
+pub mod Calls
+pub mod Reads
+pub mod Spans
+pub mod Target
+pub mod Window
+pub mod Parts
+pub mod Answers
+pub mod Queries
+pub mod Stages

@@ -1,0 +1,13 @@
+//! What holds of the requests of a connection, whoever reads them.
+ghost use Rattle.std.specs.Prelude.{◌≡◌, ◌⊎◌, ◌++◌, ℕ, List};
+ghost use Rattle.mx_http.specs.declared.call.Call.{Call};
+ghost use Rattle.mx_http.specs.Calls.{IsCall, IsBlank, IsUnfinished, IsFaulty, IsRest, Splits};
+
+/// The requests that bytes begin with, and the rest behind them, are determined by the bytes: bytes
+/// that begin with a whole request are no rest, and bytes that are no request, whatever follows,
+/// are neither a part of one nor blank.
+pub fn calls_are_determined()
+    ensures unique { (bytes : List ℕ) (calls others : List Call) (rest end : List ℕ) → Splits bytes calls rest → Splits bytes others end → (calls ≡ others) × (rest ≡ end) }
+    ensures whole { (front more : List ℕ) (call : Call) → IsCall front call → IsRest (front ++ more) → ⊥ }
+    ensures fault { (bytes : List ℕ) → IsFaulty bytes → IsUnfinished bytes ⊎ IsBlank bytes → ⊥ }
+{}

@@ -1,0 +1,29 @@
+//! The requests of a connection, and the bytes of its answers (HTTP/1.1, RFC 9112).
+#![tactic(auto)]
+
+mod answer;
+#[cfg(test)]
+mod answer_tests;
+mod call;
+mod fault;
+mod fields;
+mod grammar;
+mod head;
+mod held;
+mod laws;
+mod parameters;
+mod print;
+mod requests;
+mod stage;
+mod start;
+mod target;
+#[cfg(test)]
+mod tests;
+
+pub use answer::{Answer, Body, WriteFault, write_answer};
+pub use call::Call;
+pub use fault::HttpFault;
+pub use laws::calls_are_determined;
+pub use parameters::query;
+pub use requests::Reader;
+pub use start::reader;

@@ -1,0 +1,13 @@
+pub mod Agreement
+pub mod CommandLine
+pub mod Contents
+pub mod Indices
+pub mod Latest
+pub mod Lines
+pub mod Outcomes
+pub mod Paths
+pub mod Queries
+pub mod Replies
+pub mod Served
+pub mod Tokens
+pub mod Valid

@@ -1,0 +1,14 @@
+pub mod Words
+pub mod UsersFile
+pub mod Refusals
+pub mod Routes
+pub mod Queries
+pub mod Parameters
+pub mod Accounts
+pub mod Answers
+pub mod Bodies
+pub mod Exchanges
+pub mod Chains
+pub mod Sessions
+pub mod Steps
+pub mod Runs

@@ -1,0 +1,61 @@
+//! The sync engine of a Matrix homeserver for local users.
+#![tactic(auto)]
+
+mod account;
+mod answer;
+mod answered;
+mod asked;
+mod body;
+mod chains;
+mod connection;
+mod entry;
+mod refusal;
+mod respond;
+mod run;
+mod sync_query;
+#[cfg(test)]
+mod tests;
+mod texts;
+mod users_file;
+mod words;
+
+use mx_ids::Memory;
+use mx_outside::{HostFiles, StdErr, StdIn, StdOut};
+use run::{Status, run};
+use std::env;
+use std::io::ErrorKind;
+use std::process::ExitCode;
+
+fn main(rt: HostRuntime) -> ExitCode {
+    let Ok(words) = program_words(&rt) else {
+        return ExitCode::from(Status::Memory as u8);
+    };
+    let mut files = HostFiles::new(rt);
+    let mut input = StdIn::new(rt.stdin());
+    let mut output = StdOut::new(rt.stdout());
+    let mut errors = StdErr::new(rt.stderr());
+    let alloc = rt.alloc();
+    let status = run(
+        alloc,
+        words.as_slice(),
+        &mut files,
+        &mut input,
+        &mut output,
+        &mut errors,
+    );
+    ExitCode::from(status)
+}
+
+/// The words after the program's name. One that isn't UTF-8 makes the whole no words at all.
+fn program_words(rt: &HostRuntime) -> Result<Vec<String>, Memory> {
+    let mut words = Vec::new(rt.alloc());
+    let args = match env::args(rt) {
+        Ok(args) => args,
+        Err(error) if error.kind() == ErrorKind::OutOfMemory => return Err(Memory),
+        Err(_) => return Ok(words),
+    };
+    for word in args.skip(1) {
+        words.push(word)?;
+    }
+    Ok(words)
+}
