@@ -1,3 +1,5 @@
+ghost use Rattle.std.specs.Prelude.{◌<◌};
+
 use crate::run::run;
 use mx_ids::Memory;
 use mx_outside::{MemFile, MemFiles, MemSink, MemSource};
