@@ -1,6 +1,8 @@
 ghost use Rattle.std.specs.Prelude.{◌≡◌, IfOk};
 
+use crate::event_id::EventId;
 use crate::memory::Memory;
+use crate::room_id::RoomId;
 use crate::seq::Seq;
 use crate::sync_token::SyncToken;
 use crate::text::Text;
@@ -57,6 +59,18 @@ impl Copied for i64 {
 
 impl Copied for SyncToken {
     fn copy(&self, _alloc: Global) -> Result<SyncToken, Memory> {
+        Ok(*self)
+    }
+}
+
+impl Copied for RoomId {
+    fn copy(&self, _alloc: Global) -> Result<RoomId, Memory> {
+        Ok(*self)
+    }
+}
+
+impl Copied for EventId {
+    fn copy(&self, _alloc: Global) -> Result<EventId, Memory> {
         Ok(*self)
     }
 }

@@ -2,8 +2,10 @@
 #![tactic(auto)]
 
 mod copied;
+mod event_id;
 mod memory;
 mod number;
+mod room_id;
 mod seq;
 mod sync_token;
 #[cfg(test)]
@@ -13,7 +15,9 @@ mod user;
 mod users;
 
 pub use copied::Copied;
+pub use event_id::EventId;
 pub use memory::Memory;
+pub use room_id::RoomId;
 pub use seq::Seq;
 pub use sync_token::{
     SyncToken, TokenFault, read_sync_token, sync_text_is_injective, write_sync_token,
