@@ -1,8 +1,11 @@
 ghost use Rattle.std.specs.Prelude.{◌≡◌, [], ◌∷◌, ◌++◌, ◌==◌, length, true, OnOk, OnErr, option_map};
+ghost use Rattle.std.specs.Ordering.{nat_cmp};
+ghost use Rattle.std.specs.Cmp.Lexicographic.{slice_cmp};
 ghost use Rattle.mx_json.specs.Keys.{keys_of, are_ordered, value_at};
 
 use mx_ids::{Memory, Seq, Text};
 use std::alloc::Global;
+use std::cmp::Ordering;
 use std::marker::Model;
 
 /// A key of an object with its value.
@@ -64,16 +67,20 @@ impl<V> Members<V> {
         self.entries.as_slice()
     }
 
-    /// The value at a key, or `None` where no member has it.
+    /// The value at a key, or `None` where no member has it. Costs a binary search.
     pub fn get(&self, key: &str) -> Option<&V>
         ensures { option_map (λ v. v.now) result ≡ value_at key.now self.now }
     {
-        for member in self.as_slice() {
-            if member.key.as_str() == key {
-                return Some(&member.value);
-            }
+        let members = self.as_slice();
+        let found = members.binary_search_by(
+            |member: &Member<V>| -> Ordering
+                ensures { result ≡ slice_cmp nat_cmp member.now.key key.entry.now }
+            { member.key.as_str().cmp(key) },
+        );
+        match found {
+            Ok(at) => Some(&members[at].value),
+            Err(_) => None,
         }
-        None
     }
 
     /// Puts a member at the end, whose key is above all keys there are. `Memory` leaves the members as they were,
