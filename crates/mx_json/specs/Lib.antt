@@ -1,3 +1,4 @@
+pub mod Fields
 pub mod formers
 pub mod Keys
 pub mod Values

@@ -3,6 +3,7 @@
 
 mod copied;
 mod fault;
+mod fields;
 mod laws;
 mod members;
 mod numbers;

@@ -1,0 +1,9 @@
+pub mod Kinds
+pub mod Redaction
+pub mod Shown
+pub mod Forms
+pub mod State
+pub mod Levels
+pub mod Changes
+pub mod Denied
+pub mod Laws

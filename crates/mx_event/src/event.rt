@@ -1,0 +1,40 @@
+//! An event of a room, as it is stored and as it is shown.
+
+use mx_ids::{EventId, RoomId, Seq, Text, UserId};
+use mx_json::Json;
+
+/// An event of a room (Client-Server API, Events). It is a state event where it has a state key.
+#[derive(Debug, Drop)]
+pub struct Event {
+    /// Its position in the stream of events.
+    pub id: EventId,
+    pub room: RoomId,
+    /// The event type, as `m.room.message`.
+    pub kind: Text,
+    pub state_key: Option<Text>,
+    pub sender: UserId,
+    pub content: Json,
+    /// `origin_server_ts`: milliseconds since 1970, at most 9,007,199,254,740,991.
+    pub ts: u64,
+    /// The transaction by which a device sent it.
+    pub txn: Option<Txn>,
+    /// Whether the content has a key `url` as it was sent. Redaction keeps it, as filters by `contains_url` read it.
+    pub has_url: bool,
+}
+
+/// A transaction of a device (Client-Server API, Transaction identifiers): its id, on the decoded parts of a path.
+#[derive(Debug, Drop)]
+pub struct Txn {
+    /// The device's number in the users file.
+    pub device: u32,
+    pub id: Text,
+    pub path: Seq<Text>,
+}
+
+/// An event as it is shown at a front: redacted where a redaction up to that front names it.
+#[derive(Debug, Drop)]
+pub struct Shown {
+    pub event: Event,
+    /// The first redaction that names it, as shown at the same front.
+    pub because: Option<Event>,
+}
