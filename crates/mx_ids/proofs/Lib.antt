@@ -1,5 +1,8 @@
 pub mod Form
+pub mod Ids
 pub mod Names
 pub mod Numerals
+pub mod Page
 pub mod Read
 pub mod Sync
+pub mod Tokens

@@ -1,6 +1,8 @@
 -- Reading a number from the front of a text: what is read is spelled so, and what is spelled so is read.
-use Rattle.std.proofs.Common.{◌≡◌, ℕ, zero, suc, ◌+◌, ◌-◌, ◌*◌, ◌/◌, ◌%◌, ◌<◌, ◌≤◌, min, Bool, true, not, cond, leb, eqb, List, [], ◌∷◌, ◌++◌, Option, Some, None, refl, sym, ap, ◌∙◌, arith, append_assoc}
+use Rattle.std.proofs.Common.{◌≡◌, ℕ, zero, suc, ◌+◌, ◌-◌, ◌*◌, ◌/◌, ◌%◌, ◌<◌, ◌≤◌, min, Bool, true, not, cond, leb, eqb, length, List, [], ◌∷◌, ◌++◌, Option, Some, None, refl, sym, ap, ◌∙◌, arith, append_assoc, append-nil}
 use Rattle.std.proofs.lemmas.Bool.{cases_lt, cases_Bool, cond-true, cond-false, and_parts, and_from, leb-true, le-leb, eqb-true, eqb-false, eq-eqb, ne_eqb, not-true}
+use Rattle.std.proofs.lemmas.Option.{option_and_then_some}
+use Rattle.std.specs.Option.{option_and_then}
 use mathlib.Core.Logic.{⊎_elim}
 use Rattle.mx_ids.specs.Decimal.{numeral, is_digit, digits_behind, number_at}
 use Rattle.mx_ids.specs.Mark.{marked_at}
@@ -131,3 +133,37 @@ number-numeral most n rest ends = ⊎_elim
 pub marked-numeral : (most mark n : ℕ) (rest : List ℕ) → ends_number rest ≡ true → marked_at most mark (mark ∷ (numeral n ++ rest)) ≡ Some (min n most, rest)
 unfolding marked_at
 marked-numeral most mark n rest ends = cond-true (eqb mark mark) (number_at most (numeral n ++ rest)) None (eq-eqb mark mark refl) ∙ number-numeral most n rest ends
+
+-- a further number, and what is made of it
+pub then_number : {T : Type 0} (most n : ℕ) (rest : List ℕ) (f : ℕ × List ℕ → Option T) (mark : ℕ) (y : Option T) → ends_number rest ≡ true
+    → f (min n most, rest) ≡ y → option_and_then f (marked_at most mark (mark ∷ (numeral n ++ rest))) ≡ y
+then_number most n rest f mark y ends e = ap (option_and_then f) (marked-numeral most mark n rest ends) ∙ e
+
+pub last_number : {T : Type 0} (most n : ℕ) (f : ℕ × List ℕ → Option T) (mark : ℕ) (y : Option T)
+    → f (min n most, []) ≡ y → option_and_then f (marked_at most mark (mark ∷ numeral n)) ≡ y
+last_number most n f mark y e = ap (λ xs. option_and_then f (marked_at most mark (mark ∷ xs))) (sym (append-nil (numeral n))) ∙ then_number most n [] f mark y refl e
+
+-- what stands before a further number
+pub number_then : {T : Type 0} (most mark : ℕ) (text : List ℕ) (f : ℕ × List ℕ → Option T) (t : T) → option_and_then f (marked_at most mark text) ≡ Some t
+    → (n : ℕ) × (rest : List ℕ) × (text ≡ mark ∷ (numeral n ++ rest)) × (f (min n most, rest) ≡ Some t)
+number_then most mark text f t e = option_and_then_some f (marked_at most mark text) t e
+    (λ p is here.
+    let found = marked_spells most mark text p is in
+    (found.0, p.1, found.1, ap (λ n. f (n, p.1)) (sym found.2) ∙ here))
+
+pub no_items : {A : Type 0} (xs : List A) → eqb (length xs) 0 ≡ true → xs ≡ []
+no_items [] h = refl
+no_items (x ∷ xs) h = absurd (omega (arith, eqb-true (length (x ∷ xs)) 0 h))
+
+-- texts that are the same begin with the same number
+pub same_number : (mark n m : ℕ) (xs ys : List ℕ) → ends_number xs ≡ true → ends_number ys ≡ true
+    → mark ∷ (numeral n ++ xs) ≡ mark ∷ (numeral m ++ ys) → (n ≡ m) × (xs ≡ ys)
+same_number mark n m xs ys ends also same =
+    let most = n + m in
+    let read : (min n most, xs) ≡ (min m most, ys) = some_same (min n most, xs) (min m most, ys) (sym (marked-numeral most mark n xs ends) ∙ ap (marked_at most mark) same ∙ marked-numeral most mark m ys also) in
+    let cut : min n most ≡ min m most = ap (λ (q : ℕ × List ℕ). q.0) read in
+    (omega (arith, cut), ap (λ (q : ℕ × List ℕ). q.1) read)
+
+pub same_last_number : (mark n m : ℕ) → mark ∷ numeral n ≡ mark ∷ numeral m → n ≡ m
+same_last_number mark n m same =
+    (same_number mark n m [] [] refl refl (ap (λ xs. mark ∷ xs) (append-nil (numeral n)) ∙ same ∙ ap (λ xs. mark ∷ xs) (sym (append-nil (numeral m))))).0

@@ -1,10 +1,10 @@
 -- The text of a sync token, and which tokens are in range and in order.
-use Rattle.std.specs.Prelude.{ℕ, ◌^◌, ◌<◌, ◌≤◌, Bool, ◌&&◌, nat_lt, ◌==◌, length, if◌then◌else◌, List, ◌∷◌, ◌++◌, Option, Some, None, Result, Ok, Err, option_and_then}
+use Rattle.std.specs.Prelude.{ℕ, ◌^◌, ◌<◌, ◌≤◌, Bool, ◌&&◌, nat_lt, ◌==◌, length, if◌then◌else◌, List, ◌∷◌, ◌++◌, Option, Some, None, Result, option_and_then}
 use Rattle.mx_ids.specs.Decimal.{numeral}
+use Rattle.mx_ids.specs.Fault.{answered}
 use Rattle.mx_ids.specs.Mark.{marked_at}
 use Rattle.mx_ids.specs.declared.sync_token.SyncToken.{SyncToken}
 use Rattle.mx_ids.specs.declared.sync_token.TokenFault.{TokenFault}
-use Rattle.mx_ids.specs.declared.sync_token.TokenFault.TheVariants.{Shape, TooLarge, Order}
 
 -- the one text of a sync token, whatever its numbers
 unfoldable pub sync_text : SyncToken → List ℕ
@@ -40,6 +40,5 @@ sync_token_at most text =
     (marked_at most 95 p.1))
     (marked_at most 115 text)
 
-unfoldable pub judged : Option SyncToken → Result SyncToken TokenFault
-judged None = Err Shape
-judged (Some t) = if is_in_range t then (if nat_lt t.e t.b then Err Order else Ok t) else Err TooLarge
+abbrev pub judged : Option SyncToken → Result SyncToken TokenFault
+judged = answered is_in_range (λ t. t.b) (λ t. t.e)

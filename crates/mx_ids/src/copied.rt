@@ -2,6 +2,7 @@ ghost use Rattle.std.specs.Prelude.{◌≡◌, IfOk};
 
 use crate::event_id::EventId;
 use crate::memory::Memory;
+use crate::page_token::PageToken;
 use crate::room_id::RoomId;
 use crate::seq::Seq;
 use crate::sync_token::SyncToken;
@@ -59,6 +60,12 @@ impl Copied for i64 {
 
 impl Copied for SyncToken {
     fn copy(&self, _alloc: Global) -> Result<SyncToken, Memory> {
+        Ok(*self)
+    }
+}
+
+impl Copied for PageToken {
+    fn copy(&self, _alloc: Global) -> Result<PageToken, Memory> {
         Ok(*self)
     }
 }

@@ -2,6 +2,9 @@ ghost use Rattle.std.specs.Prelude.{◌≡◌, ◌^◌, ◌-◌, Option, None, �
 ghost use Rattle.mx_ids.specs.Decimal.{digits_behind, number_at};
 ghost use Rattle.mx_ids.specs.Mark.{marked_at, found_at};
 
+/// The numbers of tokens and the positions of ids are below this.
+pub const LIMIT: u64 = 1 << 48;
+
 /// The number that the digits at the front of `bytes` spell, and the bytes that follow them.
 /// A number that no `u64` holds is read as `u64::MAX`.
 fn read_digits(bytes: &[u8]) -> (u64, &[u8])

@@ -3,13 +3,10 @@ ghost use Rattle.mx_ids.specs.Sync.{sync_text, sync_token_at, judged, is_in_rang
 ghost use Rattle.mx_ids.specs.declared.sync_token.SyncToken.{SyncToken};
 
 use crate::memory::Memory;
-use crate::number::read_marked;
+use crate::number::{LIMIT, read_marked};
 use crate::text::Text;
 use std::alloc::{AllocError, Global};
 use thiserror::Error;
-
-/// The numbers of a sync token are below this.
-const LIMIT: u64 = 1 << 48;
 
 /// What a client has seen, as the `since` and `next_batch` of a sync carry it
 /// (Client-Server API, Syncing).
@@ -77,7 +74,7 @@ fn print(alloc: Global, token: SyncToken) -> Result<String, AllocError>
     format!(in alloc; "s{e}_{r}_{a}_{d}_{b}")
 }
 
-#[tactic(auto, unfolding(crate::specs::Sync::judged))]
+#[tactic(auto, unfolding(crate::specs::Fault::answered))]
 fn judge(text: &[u8]) -> Result<SyncToken, TokenFault>
     ensures { result ≡ judged (sync_token_at (2 ^ 64 - 1) text.now) }
 {

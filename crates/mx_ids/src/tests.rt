@@ -1,5 +1,8 @@
 use crate::copied::Copied;
+use crate::event_id::{EventId, event_id_text_is_injective, read_event_id, write_event_id};
 use crate::memory::Memory;
+use crate::page_token::{PageToken, page_text_is_injective, read_page_token, write_page_token};
+use crate::room_id::{RoomId, read_room_id, room_id_text_is_injective, write_room_id};
 use crate::seq::Seq;
 use crate::sync_token::{
     SyncToken, TokenFault, read_sync_token, sync_text_is_injective, write_sync_token,
@@ -50,6 +53,90 @@ fn a_sync_token_is_written_and_read_back(rt: HostRuntime) -> Result<(), Fail> {
     assert!(rt; out.as_str() == "next_batch=s281474976710655_0_10_7_18");
     assert_eq!(rt; read_sync_token("s281474976710655_0_10_7_18"), Ok(token));
     sync_text_is_injective();
+    Ok(())
+}
+
+fn expect_page_fault(rt: &impl Abort, text: &str, fault: TokenFault) {
+    assert_eq!(rt; read_page_token(text), Err(fault));
+}
+
+#[test]
+fn a_text_that_is_no_page_token_gets_its_fault(rt: HostRuntime) {
+    expect_page_fault(&rt, "", TokenFault::Shape);
+    expect_page_fault(&rt, "p1", TokenFault::Shape);
+    expect_page_fault(&rt, "p01_2", TokenFault::Shape);
+    expect_page_fault(&rt, "p1_2_3", TokenFault::Shape);
+    expect_page_fault(&rt, "s1_2", TokenFault::Shape);
+    expect_page_fault(&rt, "p9_281474976710656", TokenFault::TooLarge);
+    expect_page_fault(&rt, "p99999999999999999999_0", TokenFault::TooLarge);
+    expect_page_fault(&rt, "p19_18", TokenFault::Order);
+}
+
+#[test]
+fn a_page_token_is_written_and_read_back(rt: HostRuntime) -> Result<(), Fail> {
+    let token = PageToken { at: 8, e: 18 };
+    let mut out = text_of(rt.alloc(), "from=")?;
+    write_page_token(rt.alloc(), &token, &mut out)?;
+    assert!(rt; out.as_str() == "from=p8_18");
+    assert_eq!(rt; read_page_token("p8_18"), Ok(token));
+    page_text_is_injective();
+    Ok(())
+}
+
+fn expect_no_room_id(rt: &impl Abort, text: &str) {
+    assert_eq!(rt; read_room_id(text, "example.org"), None);
+}
+
+#[test]
+fn a_text_of_another_form_is_no_room_id(rt: HostRuntime) {
+    expect_no_room_id(&rt, "");
+    expect_no_room_id(&rt, "!16-1:example.org");
+    expect_no_room_id(&rt, "!256-1:example.org");
+    expect_no_room_id(&rt, "!0-01:example.org");
+    expect_no_room_id(&rt, "!0-281474976710656:example.org");
+    expect_no_room_id(&rt, "!0-1:example.com");
+    expect_no_room_id(&rt, "!0-1:example.org:8448");
+    expect_no_room_id(&rt, "!0-1example.org");
+    expect_no_room_id(&rt, "$0-1:example.org");
+}
+
+#[test]
+fn a_room_id_is_written_and_read_back(rt: HostRuntime) -> Result<(), Fail> {
+    let room = RoomId { writer: 0, at: 1 };
+    let mut out = text_of(rt.alloc(), "/rooms/")?;
+    write_room_id(rt.alloc(), &room, "example.org", &mut out)?;
+    assert!(rt; out.as_str() == "/rooms/!0-1:example.org");
+    assert_eq!(rt; read_room_id("!0-1:example.org", "example.org"), Some(room));
+    room_id_text_is_injective();
+    Ok(())
+}
+
+fn expect_no_event_id(rt: &impl Abort, text: &str) {
+    assert_eq!(rt; read_event_id(text, "example.org"), None);
+}
+
+#[test]
+fn a_text_of_another_form_is_no_event_id(rt: HostRuntime) {
+    expect_no_event_id(&rt, "");
+    expect_no_event_id(&rt, "$07:example.org");
+    expect_no_event_id(&rt, "$281474976710656:example.org");
+    expect_no_event_id(&rt, "$7:example.com");
+    expect_no_event_id(&rt, "$7");
+    expect_no_event_id(&rt, "!7:example.org");
+}
+
+#[test]
+fn an_event_id_is_written_and_read_back(rt: HostRuntime) -> Result<(), Fail> {
+    let event = EventId { at: 7 };
+    let mut out = text_of(rt.alloc(), "/event/")?;
+    write_event_id(rt.alloc(), &event, "example.org", &mut out)?;
+    assert!(rt; out.as_str() == "/event/$7:example.org");
+    assert_eq!(rt; read_event_id("$7:example.org", "example.org"), Some(event));
+    assert_eq!(rt;
+        read_event_id("$0:server", "server"),
+        Some(EventId { at: 0 })
+    );
+    event_id_text_is_injective();
     Ok(())
 }
 
