@@ -7,3 +7,4 @@ pub mod Levels
 pub mod Changes
 pub mod Denied
 pub mod Laws
+pub mod Lawful

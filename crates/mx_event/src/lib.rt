@@ -3,5 +3,6 @@
 #![tactic(auto)]
 
 mod event;
+mod placed;
 
 pub use event::{Event, Shown, Txn};
