@@ -8,3 +8,4 @@ pub mod Changes
 pub mod Denied
 pub mod Laws
 pub mod Lawful
+pub mod Drafts

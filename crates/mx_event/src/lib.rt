@@ -2,7 +2,9 @@
 //! state and of the rules by which an event is allowed.
 #![tactic(auto)]
 
+mod draft;
 mod event;
 mod placed;
 
+pub use draft::Draft;
 pub use event::{Event, Shown, Txn};
