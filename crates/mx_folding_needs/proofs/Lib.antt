@@ -1,0 +1,4 @@
+pub mod All
+pub mod Plain
+pub mod Rooms
+pub mod Turns
