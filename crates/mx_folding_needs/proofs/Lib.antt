@@ -2,3 +2,4 @@ pub mod All
 pub mod Plain
 pub mod Rooms
 pub mod Turns
+pub mod OneRoom
