@@ -16,6 +16,20 @@ fn first(alloc: Global, bytes: &[u8]) -> Result<Option<Call>, HttpFault> {
     reader(alloc)?.next_request(alloc, &mut source)
 }
 
+/// What the first request is, or why it is none, where the source gives so many bytes at a time and its call of that
+/// number fails.
+fn first_of_failing(alloc: Global, piece: usize, call: u64) -> Result<Option<Call>, HttpFault> {
+    const POST: &[u8] = b"POST / HTTP/1.1\r\nContent-Length: 2\r\n\r\nab";
+    let (Ok(bytes), Ok(failing)) = (
+        Vec::from_slice(alloc, POST),
+        Vec::from_slice(alloc, &[call]),
+    ) else {
+        return Err(HttpFault::Memory);
+    };
+    let mut source = MemSource::new(bytes, piece, failing);
+    reader(alloc)?.next_request(alloc, &mut source)
+}
+
 /// The token of the first request, as its bytes.
 fn token_of(alloc: Global, bytes: &[u8]) -> Option<bool> {
     match first(alloc, bytes) {
@@ -117,6 +131,21 @@ fn what_is_no_request_has_its_cause(rt: HostRuntime) -> Result<(), Fail> {
     }
     assert!(rt; matches!(first(rt.alloc(), b"\r\n\n\r\r"), Ok(None)));
     Ok(())
+}
+
+#[test]
+fn a_failed_read_is_the_answer(rt: HostRuntime) {
+    // at the first byte, in the head, between head and body, and in the body
+    for (piece, call) in [(20, 0), (20, 1), (38, 1), (39, 1)] {
+        assert!(rt;
+            matches!(
+                first_of_failing(rt.alloc(), piece, call),
+                Err(HttpFault::ReadFault)
+            )
+        );
+    }
+    // the call that would find the end isn't made
+    assert!(rt; matches!(first_of_failing(rt.alloc(), 40, 1), Ok(Some(_))));
 }
 
 #[test]

@@ -118,7 +118,7 @@ fn a_value_is_built_and_copied(rt: HostRuntime) -> Result<(), Fail> {
     let alloc = rt.alloc();
     let mut members = Members::new(alloc);
     members.push(text(alloc, "body")?, Json::Text(text(alloc, "hi")?))?;
-    let copy = Json::Object(members).copy(alloc)?;
+    let copy = Json::Object(members.copy(alloc)?).copy(alloc)?;
     if let Json::Object(members) = &copy {
         assert_eq!(rt; members.len(), 1);
         assert!(rt; matches!(members.get("body"), Some(Json::Text(_))));
