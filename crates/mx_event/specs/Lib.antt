@@ -6,4 +6,5 @@ pub mod State
 pub mod Levels
 pub mod Changes
 pub mod Denied
+pub mod Lawful
 pub mod Laws
