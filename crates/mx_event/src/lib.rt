@@ -9,6 +9,8 @@ mod laws;
 mod placed;
 mod redaction;
 mod size;
+#[cfg(test)]
+mod tests;
 
 pub use event::{Event, Shown, Txn};
 pub use forms::client_form;
