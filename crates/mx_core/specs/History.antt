@@ -21,6 +21,11 @@ abbrev pub own : {I : Type 0} → List (Stored I) → ℕ → List (Stored I)
 own [] k = []
 own (s ∷ h) k = if nat_eq s.writer k then s ∷ own h k else own h k
 
+-- the items of a list of stores
+abbrev pub items_of : {I : Type 0} → List (Stored I) → List I
+items_of [] = []
+items_of (s ∷ ss) = s.items ++ items_of ss
+
 -- how many items a history has
 abbrev pub stored_count : {I : Type 0} → List (Stored I) → ℕ
 stored_count [] = 0
@@ -38,3 +43,8 @@ Law I = ℕ → List (Stored I) → ℕ → List I → Bool
 abbrev pub keeps_law : {I : Type 0} → Law I → List (Stored I) → List (Stored I) → Bool
 keeps_law law before [] = true
 keeps_law law before (s ∷ h) = law s.writer (own before s.writer) s.first s.items && keeps_law law (before ++ s ∷ []) h
+
+-- the items of a block that begins at `first` as they stand, the first of them at `at`; `place` gives an item its position
+abbrev pub placed_from : {I : Type 0} → (I → ℕ → ℕ → I) → ℕ → ℕ → List I → List I
+placed_from place first at [] = []
+placed_from place first at (x ∷ xs) = place x first at ∷ placed_from place first (at + 1) xs

@@ -12,4 +12,4 @@ mod tests;
 pub use history::Stored;
 pub use laws::{front_covers_no_unfinished_write, front_never_falls};
 pub use machine::{Block, Machine, Moved, Step, StepFault};
-pub use placed::Placed;
+pub use placed::{Placed, Prepared};

@@ -1,5 +1,5 @@
 -- An event as clients see it (Client-Server API, Room Event Format), and the size of an event.
-use Rattle.std.specs.Prelude.{ℕ, List, [], ◌∷◌, ◌++◌, Bool, true, false, ◌&&◌, ◌==◌, nat_le, min, pos, length, Option, Some, None, option_and_then, option_map, is_some, if◌then◌else◌, codes}
+use Rattle.std.specs.Prelude.{ℕ, List, [], ◌∷◌, ◌++◌, Bool, true, ◌==◌, nat_le, min, pos, length, Option, Some, None, option_and_then, option_map, if◌then◌else◌, codes}
 use Rattle.std.specs.Option.{option_to_list}
 use Rattle.mx_ids.specs.Ids.{room_id_text, event_id_text}
 use Rattle.mx_json.specs.Fields.{field}

@@ -1,5 +1,5 @@
 -- The event types that the rules read (Client-Server API, Room Events), and the keys of state.
-use Rattle.std.specs.Prelude.{ℕ, Bool, false, ◌&&◌, List, [], Option, Some, None, is_none, codes}
+use Rattle.std.specs.Prelude.{ℕ, Bool, false, ◌&&◌, List, Option, Some, None, is_none, codes}
 use Rattle.std.specs.Str.{bytes_eq}
 use Rattle.mx_event.specs.declared.event.Event.{Event}
 

@@ -1,5 +1,5 @@
 -- Power levels (Client-Server API, m.room.power_levels).
-use Rattle.std.specs.Prelude.{ℕ, ℤ, pos, List, [], ◌∷◌, Bool, Option, Some, None, is_some, option_and_then, unwrap_or, if◌then◌else◌, codes}
+use Rattle.std.specs.Prelude.{ℕ, ℤ, pos, List, [], Bool, Option, Some, None, is_some, option_and_then, unwrap_or, if◌then◌else◌, codes}
 use Rattle.mx_json.specs.Fields.{field, int_at}
 use Rattle.mx_json.specs.declared.value.Json.{Json}
 use Rattle.mx_event.specs.Kinds.{power_type, is_text}

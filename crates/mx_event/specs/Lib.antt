@@ -6,5 +6,6 @@ pub mod State
 pub mod Levels
 pub mod Changes
 pub mod Denied
-pub mod Lawful
 pub mod Laws
+pub mod Lawful
+pub mod Drafts

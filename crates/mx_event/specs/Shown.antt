@@ -1,5 +1,5 @@
 -- *Shown*: how the events of a room stand at a front. `es` are the events of one room, in the order of their positions.
-use Rattle.std.specs.Prelude.{ℕ, ◌^◌, ◌-◌, ◌==◌, List, [], ◌∷◌, Bool, true, false, Option, Some, None, option_map, option_and_then, if◌then◌else◌, codes}
+use Rattle.std.specs.Prelude.{ℕ, ◌^◌, ◌-◌, ◌==◌, List, [], ◌∷◌, Bool, false, Option, Some, None, option_map, option_and_then, if◌then◌else◌, codes}
 use Rattle.std.specs.List.{list_any, filter}
 use Rattle.mx_ids.specs.User.{server_of}
 use Rattle.mx_ids.specs.Ids.{event_id_at}

@@ -3,6 +3,7 @@
 #![tactic(auto)]
 
 mod copied;
+mod draft;
 mod event;
 mod forms;
 mod laws;
@@ -12,6 +13,7 @@ mod size;
 #[cfg(test)]
 mod tests;
 
+pub use draft::Draft;
 pub use event::{Event, Shown, Txn};
 pub use forms::client_form;
 pub use laws::{names_stay, redacts_once, shown_stays};

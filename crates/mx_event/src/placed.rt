@@ -1,31 +1,25 @@
-ghost use Rattle.std.specs.Prelude.{◌≡◌};
-ghost use Rattle.mx_event.specs.Lawful.{lawful, placed, placed_room};
+//! Events in the stream of their writer.
+ghost use Rattle.mx_event.specs.Lawful.{lawful_store, placed_event};
 
 use crate::event::Event;
 use mx_core::Placed;
 use mx_ids::{EventId, RoomId};
 
-/// An event whose room its block creates has position 0 in its room's id until it is placed.
+/// A store of events is lawful where each stands at its own position, in a room of the store's writer, is allowed after
+/// the events of its room before it, and, if it is a redaction, names one of these; a create event's position is that of
+/// its room.
 impl Placed for Event {
-    ghost lawful = { lawful };
+    ghost lawful = { lawful_store };
 
-    ghost placed = { placed };
+    ghost placed = { placed_event };
 
     fn place(&mut self, first: u64, at: u64) {
         self.id = EventId { at };
-        self.room = placed_room(self.room, first);
-    }
-}
-
-fn placed_room(room: RoomId, first: u64) -> RoomId
-    ensures { result ≡ placed_room room first }
-{
-    if room.at == 0 {
-        RoomId {
-            writer: room.writer,
-            at: first,
+        if self.room.at == 0 {
+            self.room = RoomId {
+                writer: self.room.writer,
+                at: first,
+            };
         }
-    } else {
-        room
     }
 }

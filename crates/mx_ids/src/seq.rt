@@ -1,4 +1,5 @@
-ghost use Rattle.std.specs.Prelude.{◌≡◌, [], ◌∷◌, ◌++◌, ◌==◌, length, slice_get, ◌<◌, OnOk, OnErr, OnSome};
+ghost use Rattle.std.specs.Prelude.{◌≡◌, [], ◌∷◌, ◌++◌, ◌==◌, length, slice_get, slice_set, ◌<◌, ◌≤◌, OnOk, OnErr, OnSome};
+ghost use Rattle.std.specs.List.{insert};
 ghost use Rattle.std.specs.Option.{option_copied};
 
 use crate::memory::Memory;
@@ -85,6 +86,29 @@ impl<T> Seq<T> {
     {
         self.items.push(item)?;
         Ok(())
+    }
+
+    /// Puts an item at an index, before those that stood from there on. `Memory` leaves the list as it was, and the item
+    /// is dropped.
+    pub fn insert(&mut self, at: usize, item: T) -> Result<(), Memory>
+    where
+        T: Drop,
+        requires { at ≤ length self.old }
+        ensures ok { OnOk result (self.new ≡ insert self.old at item) }
+        ensures same { OnErr result (self.new ≡ self.old) }
+    {
+        self.items.insert(at, item)?;
+        Ok(())
+    }
+
+    /// Sets the item at an index. Takes no memory; the item that stood there is dropped.
+    pub fn set(&mut self, at: usize, item: T)
+    where
+        T: Drop,
+        requires { at < length self.old }
+        ensures { self.new ≡ slice_set self.old at item }
+    {
+        self.items[at] = item;
     }
 }
 

@@ -1,4 +1,5 @@
 pub mod Order
+pub mod Search
 pub mod Fractions
 pub mod Reading
 pub mod Induction

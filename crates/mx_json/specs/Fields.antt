@@ -52,6 +52,30 @@ int_in (Json-F.Object ms) = None
 abbrev pub int_of : Json → Option ℤ
 int_of j = int_in (out-Json j)
 
+abbrev pub bool_in : Json-F Json → Option Bool
+bool_in Json-F.Null = None
+bool_in (Json-F.Bool b) = Some b
+bool_in (Json-F.Int z) = None
+bool_in (Json-F.Text s) = None
+bool_in (Json-F.List js) = None
+bool_in (Json-F.Object ms) = None
+
+-- the truth value that a value is
+abbrev pub bool_of : Json → Option Bool
+bool_of j = bool_in (out-Json j)
+
+abbrev pub list_in : Json-F Json → Option (List Json)
+list_in Json-F.Null = None
+list_in (Json-F.Bool b) = None
+list_in (Json-F.Int z) = None
+list_in (Json-F.Text s) = None
+list_in (Json-F.List js) = Some js
+list_in (Json-F.Object ms) = None
+
+-- the list that a value is
+abbrev pub list_of : Json → Option (List Json)
+list_of j = list_in (out-Json j)
+
 -- the value at a key of an object
 abbrev pub field : List ℕ → Json → Option Json
 field key j = value_at key (members_of j)

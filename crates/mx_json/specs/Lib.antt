@@ -1,6 +1,7 @@
 pub mod Fields
 pub mod formers
 pub mod Keys
+pub mod Places
 pub mod Values
 pub mod Numbers
 pub mod Reading

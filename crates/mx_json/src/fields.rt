@@ -1,10 +1,10 @@
 //! What stands in a value, and at a key of it.
 ghost use Rattle.std.specs.Prelude.{◌≡◌, Some, None, if◌then◌else◌, option_map};
-ghost use Rattle.mx_json.specs.Fields.{field, int_at, int_of, is_object, members_of, text_at, text_of};
+ghost use Rattle.mx_json.specs.Fields.{bool_of, field, int_at, int_of, is_object, list_of, members_of, text_at, text_of};
 
 use crate::members::Members;
 use crate::value::Json;
-use mx_ids::Text;
+use mx_ids::{Seq, Text};
 
 impl Json {
     /// The members of an object, or `None` where the value is no object.
@@ -33,6 +33,26 @@ impl Json {
     {
         match self {
             Json::Int(number) => Some(*number),
+            _ => None,
+        }
+    }
+
+    /// The truth value that the value is, or `None` where it is none.
+    pub fn as_bool(&self) -> Option<bool>
+        ensures { result ≡ bool_of self.now }
+    {
+        match self {
+            Json::Bool(truth) => Some(*truth),
+            _ => None,
+        }
+    }
+
+    /// The items of a list, or `None` where the value is no list.
+    pub fn as_list(&self) -> Option<&Seq<Json>>
+        ensures { option_map (λ js. js.now) result ≡ list_of self.now }
+    {
+        match self {
+            Json::List(items) => Some(items),
             _ => None,
         }
     }

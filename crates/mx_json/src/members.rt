@@ -1,8 +1,12 @@
-ghost use Rattle.std.specs.Prelude.{◌≡◌, [], ◌∷◌, ◌++◌, ◌==◌, length, true, OnOk, OnErr, option_map};
-ghost use Rattle.mx_json.specs.Keys.{keys_of, are_ordered, value_at};
+ghost use Rattle.std.specs.Prelude.{◌≡◌, [], ◌∷◌, ◌++◌, ◌==◌, length, true, OnOk, OnErr, IfOk, IfErr, option_map};
+ghost use Rattle.std.specs.Ordering.{nat_cmp};
+ghost use Rattle.std.specs.Cmp.Lexicographic.{slice_cmp};
+ghost use Rattle.mx_json.specs.Keys.{keys_of, are_ordered, value_at, with_member};
+ghost use Rattle.mx_json.specs.Places.{IsPlaceOf, IsPlaceFor};
 
 use mx_ids::{Memory, Seq, Text};
 use std::alloc::Global;
+use std::cmp::Ordering;
 use std::marker::Model;
 
 /// A key of an object with its value.
@@ -64,16 +68,32 @@ impl<V> Members<V> {
         self.entries.as_slice()
     }
 
-    /// The value at a key, or `None` where no member has it.
+    /// The value at a key, or `None` where no member has it. Costs a binary search.
     pub fn get(&self, key: &str) -> Option<&V>
         ensures { option_map (λ v. v.now) result ≡ value_at key.now self.now }
     {
-        for member in self.as_slice() {
-            if member.key.as_str() == key {
-                return Some(&member.value);
-            }
+        let members = self.as_slice();
+        match place_of(members, key) {
+            Ok(at) => Some(&members[at].value),
+            Err(_) => None,
         }
-        None
+    }
+
+    /// Sets the value at a key, in place of the one that was there. `Memory` leaves the members as they were, and the key
+    /// and the value are dropped. Costs a binary search and a move of the members above the key.
+    pub fn set(&mut self, key: Text, value: V) -> Result<(), Memory>
+    where
+        V: Drop,
+        ensures ok { OnOk result (self.new ≡ with_member key value self.old) }
+        ensures same { OnErr result (self.new ≡ self.old) }
+    {
+        match place_of(self.as_slice(), key.as_str()) {
+            Ok(at) => {
+                self.entries.set(at, Member { key, value });
+                Ok(())
+            }
+            Err(at) => self.entries.insert(at, Member { key, value }),
+        }
     }
 
     /// Puts a member at the end, whose key is above all keys there are. `Memory` leaves the members as they were,
@@ -97,4 +117,17 @@ impl<V> Members<V> {
             entries: Seq::from_vec(members),
         }
     }
+}
+
+/// Where a key stands among members in order, or else where it would.
+fn place_of<V>(members: &[Member<V>], key: &str) -> Result<usize, usize>
+    requires { are_ordered (keys_of members.now) ≡ true }
+    ensures found { IfOk result (IsPlaceOf key.now members.now) }
+    ensures parted { IfErr result (IsPlaceFor key.now members.now) }
+{
+    members.binary_search_by(
+        |member: &Member<V>| -> Ordering
+            ensures { result ≡ slice_cmp nat_cmp member.now.key key.entry.now }
+        { member.key.as_str().cmp(key) },
+    )
 }

@@ -129,3 +129,18 @@ fn a_value_is_built_and_copied(rt: HostRuntime) -> Result<(), Fail> {
     assert_eq!(rt; out.as_str(), r#"content={"body":"hi"}"#);
     Ok(())
 }
+
+#[test]
+fn members_that_are_set_stand_in_order(rt: HostRuntime) -> Result<(), Fail> {
+    let mut members = Members::new(rt.alloc());
+    for (key, number) in [("b", 1), ("a", 2), ("c", 3), ("b", 4)] {
+        members.set(text(rt.alloc(), key)?, Json::Int(number))?;
+    }
+    let object = Json::Object(members);
+    let mut out = Text::new(rt.alloc());
+    object.write(rt.alloc(), &mut out)?;
+    assert_eq!(rt; out.as_str(), r#"{"a":2,"b":4,"c":3}"#);
+    assert_eq!(rt; object.int_at("b"), Some(4));
+    assert_eq!(rt; object.int_at("d"), None);
+    Ok(())
+}

@@ -7,10 +7,10 @@ use Rattle.std.proofs.lemmas.Bool.{cases_eq}
 use Rattle.std.proofs.lemmas.List.{append-nil, append_assoc, take_more, drop_all, length-set, length-take, get_or-set_same, get_or-set_other}
 use Rattle.mx_core.specs.declared.history.Stored.{Stored}
 use Rattle.mx_core.specs.Front.{IsFront}
-use Rattle.mx_core.specs.History.{item_at, is_stored}
+use Rattle.mx_core.specs.History.{item_at, is_stored, items_of}
 use Rattle.mx_lanes.specs.Book.{IsBook}
 use Rattle.mx_lanes.specs.Held.{Held, Keeps, OthersKeep, spare_of}
-use Rattle.mx_lanes.specs.Order.{by_index, items_of, IsReach}
+use Rattle.mx_lanes.specs.Order.{by_index, IsReach}
 use Rattle.mx_lanes.specs.Parts.{IsUpTo, part_at}
 use Rattle.mx_lanes.specs.Room.{total, HasRoom}
 use Rattle.mx_lanes.proofs.Orders.{IsPlace, insert_named, valid_more, reach_placed, same_items, reach_front, reach_items, reach_length, slice_get-take, take_found, take_fill, length-by_index}

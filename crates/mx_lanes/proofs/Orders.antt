@@ -7,9 +7,9 @@ use Rattle.std.proofs.lemmas.Option.{same_Some, none-some, slice_get-get_or, sli
 use Rattle.std.proofs.lemmas.List.{take-append-drop, take_at, drop_at, drop_all, drop-drop, length-append, length-take, take_min, append_assoc}
 use Rattle.mx_core.specs.declared.history.Stored.{Stored}
 use Rattle.mx_core.specs.Front.{IsFront}
-use Rattle.mx_core.specs.History.{item_of, item_at, is_stored}
+use Rattle.mx_core.specs.History.{item_of, item_at, is_stored, items_of}
 use Rattle.mx_core.proofs.Histories.{item_at-append, is_stored-append, stored_new, stored_still, stored_cases, no_item, item_kept}
-use Rattle.mx_lanes.specs.Order.{by_index, items_of, Reaches, Ascends, IsReach}
+use Rattle.mx_lanes.specs.Order.{by_index, Reaches, Ascends, IsReach}
 
 -- items of lists by their place
 pub found_at : {A : Type 0} (xs : List A) (i : ℕ) → i < length xs → (x : A) × (slice_get xs i ≡ Some x)

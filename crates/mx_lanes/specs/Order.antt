@@ -8,11 +8,6 @@ abbrev pub by_index : {I : Type 0} → List (Stored I) → List ℕ → List (St
 by_index h [] = []
 by_index h (i ∷ is) = option_to_list (slice_get h i) ++ by_index h is
 
--- the items of a list of stores
-abbrev pub items_of : {I : Type 0} → List (Stored I) → List I
-items_of [] = []
-items_of (s ∷ ss) = s.items ++ items_of ss
-
 -- stores without a gap, from the position after the first number to the second
 abbrev pub Reaches : {I : Type 0} → ℕ → List (Stored I) → ℕ → Type 0
 Reaches base [] front = front ≡ base

@@ -4,9 +4,9 @@ ghost use Rattle.std.specs.Prelude.{◌≡◌, ◌<◌, ◌≤◌, ◌+◌, ◌-
 ghost use Rattle.std.specs.Vec.{vec_capacity};
 ghost use Rattle.std.specs.List.{AllByRecursion};
 ghost use Rattle.mx_core.specs.declared.history.Stored.{Stored};
-ghost use Rattle.mx_core.specs.History.{is_stored};
+ghost use Rattle.mx_core.specs.History.{is_stored, items_of};
 ghost use Rattle.mx_lanes.specs.Book.{IsBook};
-ghost use Rattle.mx_lanes.specs.Order.{by_index, items_of, IsReach};
+ghost use Rattle.mx_lanes.specs.Order.{by_index, IsReach};
 
 use mx_core::Stored;
 use mx_ids::{Copied, Memory};

@@ -1,9 +1,9 @@
--- Windows of an ascending list: split in two, one within another.
-use Rattle.std.proofs.Common.{◌≡◌, ℕ, ◌<◌, ◌≤◌, Bool, true, false, cond, ◌&&◌, nat_lt, nat_le, List, [], ◌∷◌, ◌++◌, map, filter, refl, ap, ap₂, sym, ◌∙◌, subst, inl, inr, arith, ltb-true, leb-true, lt-ltb, le-leb}
-use Rattle.std.proofs.lemmas.Bool.{cases_Bool, and_parts, and_from, cases_lt}
+-- Windows of an ascending list: split in two, one within another; windows of items at consecutive positions.
+use Rattle.std.proofs.Common.{◌≡◌, ℕ, zero, suc, nat_eq, eq-eqb, length, ◌+◌, ◌<◌, ◌≤◌, take, Bool, true, false, cond, ◌&&◌, nat_lt, nat_le, List, [], ◌∷◌, ◌++◌, map, filter, refl, ap, ap₂, sym, ◌∙◌, subst, inl, inr, arith, ltb-true, leb-true, lt-ltb, le-leb}
+use Rattle.std.proofs.lemmas.Bool.{cases_Bool, and_parts, and_from, cases_lt, eqb-true}
 use Rattle.std.proofs.lemmas.Bool.Decides.{nat_tests}
 use Rattle.std.specs.List.{AllByRecursion}
-use Rattle.mx_window.specs.Windows.{Ascends, between}
+use Rattle.mx_window.specs.Windows.{Ascends, between, stand_from}
 use Rattle.mx_window.proofs.Each.{filter-weaker, AllByRecursion-passed, AllByRecursion-weaker}
 
 -- nothing lies in a window that ends where it begins
@@ -87,3 +87,33 @@ Ascends-between at base low high (e ∷ es) up =
 pub Ascends-map : {E F : Type 0} (at : E → ℕ) (at' : F → ℕ) (f : E → F) → ((e : E) → at' (f e) ≡ at e) → (low : ℕ) (es : List E) → Ascends at low es → Ascends at' low (map f es)
 Ascends-map at at' f h low [] up = tt
 Ascends-map at at' f h low (e ∷ es) up = (subst (λ x. low < x) (sym (h e)) up.0, subst (λ x. Ascends at' x (map f es)) (sym (h e)) (Ascends-map at at' f h (at e) es up.1))
+
+-- items at consecutive positions ascend
+pub Ascends-stand_from : {E : Type 0} (at : E → ℕ) (base first : ℕ) (es : List E) → base < first → stand_from at first es ≡ true → Ascends at base es
+Ascends-stand_from at base first [] h stands = tt
+Ascends-stand_from at base first (e ∷ es) h stands =
+    let parts = and_parts (nat_eq (at e) first) (stand_from at (first + 1) es) stands in
+    let here : at e ≡ first = eqb-true (at e) first parts.0 in
+    (omega arith, Ascends-stand_from at (at e) (first + 1) es (omega arith) parts.1)
+
+-- a window of n positions has the first n items, where these stand at consecutive positions from its own first
+window_taken : {E : Type 0} (at : E → ℕ) (low base n high : ℕ) (es : List E) → low ≤ base → high ≡ base + n → stand_from at (base + 1) es ≡ true
+    → between at low high es ≡ take n es
+window_taken at low base zero high es h is stands = between-none at low high base es (Ascends-stand_from at base (base + 1) es (omega arith) stands) (omega arith)
+window_taken at low base (suc n) high [] h is stands = refl
+window_taken at low base (suc n) high (e ∷ es) h is stands =
+    let parts = and_parts (nat_eq (at e) (base + 1)) (stand_from at (base + 1 + 1) es) stands in
+    let here : at e ≡ base + 1 = eqb-true (at e) (base + 1) parts.0 in
+    let within : (nat_lt low (at e) && nat_le (at e) high) ≡ true = grind (arith, nat_tests) in
+    rw within (ap (λ l. e ∷ l) (window_taken at low (base + 1) n high es (omega arith) (omega arith) parts.1))
+
+-- items at consecutive positions from 1: those up to a position are the first so many
+pub between-take : {E : Type 0} (at : E → ℕ) (high : ℕ) (es : List E) → stand_from at 1 es ≡ true → between at 0 high es ≡ take high es
+between-take at high es stands = window_taken at 0 0 high high es (omega arith) (omega arith) stands
+
+-- one item more at consecutive positions
+pub stand_from-push : {E : Type 0} (at : E → ℕ) (first : ℕ) (es : List E) (e : E) → stand_from at first es ≡ true → at e ≡ first + length es → stand_from at first (es ++ e ∷ []) ≡ true
+stand_from-push at first [] e stands next = and_from (nat_eq (at e) first) true (eq-eqb (at e) first (omega arith)) refl
+stand_from-push at first (f ∷ es) e stands next =
+    let parts = and_parts (nat_eq (at f) first) (stand_from at (first + 1) es) stands in
+    and_from (nat_eq (at f) first) (stand_from at (first + 1) (es ++ e ∷ [])) parts.0 (stand_from-push at (first + 1) es e parts.1 (omega arith))

@@ -1,5 +1,6 @@
 use Rattle.std.proofs.Common.{◌≡◌, take}
-use Rattle.mx_lanes.specs.Order.{by_index, items_of}
+use Rattle.mx_core.specs.History.{items_of}
+use Rattle.mx_lanes.specs.Order.{by_index}
 use Rattle.mx_lanes.proofs.order.copy_items.Given as goal
 
 abbrev pub invariant-copies : goal.invariant-copies

@@ -1,0 +1,58 @@
+ghost use Rattle.std.specs.Prelude.{◌≡◌};
+ghost use Rattle.mx_account.specs.Entries.{are_placed, placed_at};
+
+use mx_core::Placed;
+use mx_ids::{Copied, Memory, RoomId, Text, UserId};
+use mx_json::Json;
+use std::alloc::Global;
+
+/// An item of the stream of account data.
+#[derive(Debug, Drop)]
+pub enum Entry {
+    /// Account data that a user set under a type, global or of a room (Client-Server API, Client Config).
+    Data {
+        /// The user that set the data, and alone receives it.
+        user: UserId,
+        /// The room, or `None` where the data is global.
+        room: Option<RoomId>,
+        /// The type.
+        kind: Text,
+        /// The content.
+        content: Json,
+        /// The item's position in the stream of account data, from 1, below 2^48.
+        at: u64,
+    },
+}
+
+impl Copied for Entry {
+    fn copy(&self, alloc: Global) -> Result<Entry, Memory> {
+        match self {
+            Entry::Data {
+                user,
+                room,
+                kind,
+                content,
+                at,
+            } => Ok(Entry::Data {
+                user: user.copy(alloc)?,
+                room: *room,
+                kind: kind.copy(alloc)?,
+                content: content.copy(alloc)?,
+                at: *at,
+            }),
+        }
+    }
+}
+
+/// Items of a store are lawful where each stands at its own position.
+impl Placed for Entry {
+    ghost lawful = { λ writer before first items. are_placed first items };
+
+    ghost placed = { λ entry first at. placed_at entry at };
+
+    fn place(&mut self, _first: u64, at: u64) {
+        match self {
+            Entry::Data { at: own, .. } => *own = at,
+        }
+    }
+}

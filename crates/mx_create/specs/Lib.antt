@@ -1,0 +1,4 @@
+pub mod Presets
+pub mod Bodies
+pub mod Contents
+pub mod Blocks
