@@ -1,4 +1,7 @@
 //! An event of a room, as it is stored and as it is shown.
+ghost use Rattle.std.specs.Prelude.{◌≡◌, option_map};
+ghost use Rattle.mx_event.specs.Forms.{redacts_of};
+ghost use Rattle.mx_event.specs.Kinds.{is_redaction};
 
 use mx_ids::{EventId, RoomId, Seq, Text, UserId};
 use mx_json::Json;
@@ -37,4 +40,25 @@ pub struct Shown {
     pub event: Event,
     /// The first redaction that names it, as shown at the same front.
     pub because: Option<Event>,
+}
+
+impl Event {
+    /// Whether the event is a redaction: a message event of type `m.room.redaction` (Room Version 11, Redactions).
+    pub fn is_redaction(&self) -> bool
+        ensures { result ≡ is_redaction self.now }
+    {
+        self.kind.as_str() == "m.room.redaction" && self.state_key.is_none()
+    }
+
+    /// What a redaction has at the key `redacts` of its content: in a well-formed one the id of the event
+    /// that it redacts. `None` where the event is no redaction, or has nothing there.
+    pub fn redacts(&self) -> Option<&Json>
+        ensures { option_map (λ j. j.now) result ≡ redacts_of self.now }
+    {
+        if self.is_redaction() {
+            self.content.field("redacts")
+        } else {
+            None
+        }
+    }
 }

@@ -2,9 +2,20 @@
 //! state and of the rules by which an event is allowed.
 #![tactic(auto)]
 
+mod copied;
 mod draft;
 mod event;
+mod forms;
+mod laws;
 mod placed;
+mod redaction;
+mod size;
+#[cfg(test)]
+mod tests;
 
 pub use draft::Draft;
 pub use event::{Event, Shown, Txn};
+pub use forms::client_form;
+pub use laws::{names_stay, redacts_once, shown_stays};
+pub use redaction::redact;
+pub use size::fits;

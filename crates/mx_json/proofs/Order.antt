@@ -41,12 +41,12 @@ may_push ms e left whole h order =
     let split = append_assoc front (string_bytes e.0 ∷ []) rest ∙ sym (map-append (λ m. m.key) ms (members_of_data (members_view (e ∷ left)))) ∙ ap keys.keys_of h in
     ordered_front (front ++ string_bytes e.0 ∷ []) rest (ap are_ordered split ∙ ordered_entries whole order)
 
-less_from : (o : Ordering) → is_lt o ≡ true → o ≡ Less
+pub less_from : (o : Ordering) → is_lt o ≡ true → o ≡ Less
 less_from Less h = refl
 less_from Equal h = cc
 less_from Greater h = cc
 
-below_through : (k l : List ℕ) (ks : List (List ℕ)) → slice_cmp nat_cmp k l ≡ Less → AllByRecursion (λ m. slice_cmp nat_cmp l m ≡ Less) ks → AllByRecursion (λ m. slice_cmp nat_cmp k m ≡ Less) ks
+pub below_through : (k l : List ℕ) (ks : List (List ℕ)) → slice_cmp nat_cmp k l ≡ Less → AllByRecursion (λ m. slice_cmp nat_cmp l m ≡ Less) ks → AllByRecursion (λ m. slice_cmp nat_cmp k m ≡ Less) ks
 below_through k l [] less all = tt
 below_through k l (m ∷ ks) less all = (nat_list_cmp_total.trans k l m less all.0, below_through k l ks less all.1)
 

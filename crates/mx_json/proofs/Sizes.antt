@@ -3,7 +3,7 @@ use Rattle.std.proofs.Common.{◌≡◌, ℕ, ◌+◌, ◌-◌, ◌==◌, min, t
 use Rattle.std.proofs.lemmas.Fmt.{decimal_step, decimal_digit, length-decimal-le}
 use Rattle.std.proofs.lemmas.List.{length_push, take_all}
 use Rattle.json.specs.Print.{quoted, escape, escape_byte}
-use Rattle.mx_json.specs.Texts.{json_text, list_text, object_text}
+use Rattle.mx_json.specs.Texts.{json_text, list_text, object_text, members_len}
 use Rattle.mx_json.specs.declared.members.Member.{Member}
 use Rattle.mx_json.specs.declared.value.Json.{Json}
 
@@ -18,11 +18,6 @@ escape_more (a ∷ s) b = omega (arith, length-append (escape_byte a) (escape (s
 abbrev pub items_len : List Json → ℕ
 items_len [] = 0
 items_len (j ∷ js) = length (json_text j) + 1 + items_len js
-
--- of members, each with the comma or the brace behind it
-abbrev pub members_len : List (Member Json) → ℕ
-members_len [] = 0
-members_len (m ∷ ms) = length (quoted m.key) + length (json_text m.value) + 2 + members_len ms
 
 items_len_more : (js : List Json) (j : Json) → items_len (js ++ j ∷ []) ≡ items_len js + length (json_text j) + 1
 items_len_more [] j = omega arith
@@ -46,7 +41,7 @@ later_members (m ∷ ms) =
     let rest = json_text m.value ++ object_text true ms in
     omega (arith, length-append (quoted m.key) (58 ∷ rest), length-append (json_text m.value) (object_text true ms), later_members ms)
 
-object_len : (ms : List (Member Json)) → (length ms == 0) ≡ false → length (object_text false ms) ≡ members_len ms
+pub object_len : (ms : List (Member Json)) → (length ms == 0) ≡ false → length (object_text false ms) ≡ members_len ms
 object_len [] some = absurd (true≢false some)
 object_len (m ∷ ms) some =
     let rest = json_text m.value ++ object_text true ms in

@@ -1,5 +1,6 @@
 use Rattle.std.proofs.Common.{◌≡◌, ◌+◌, ◌-◌, ◌^◌, min, take}
-use Rattle.mx_json.proofs.Sizes.{items_len, members_len}
+use Rattle.mx_json.specs.Texts.{members_len}
+use Rattle.mx_json.proofs.Sizes.{items_len}
 use Rattle.mx_json.proofs.+size.Given as goal
 
 abbrev pub invariant-size::list_size-loop-item : goal.invariant-size::list_size-loop-item
