@@ -1,0 +1,4 @@
+pub mod Worlds
+pub mod Goes
+pub mod Moves
+pub mod Allowed
