@@ -3,9 +3,18 @@
 #![tactic(auto)]
 
 mod board;
+mod front;
+mod handles;
 mod laws;
 mod plays;
+mod reading;
+mod start;
+mod turns;
 mod view;
+mod writing;
 
+pub use front::Stream;
+pub use handles::{Drawn, Full, Pass, Pen};
 pub use laws::seats_see_one_history;
+pub use start::stream;
 pub use view::{Role, Turn, View};
