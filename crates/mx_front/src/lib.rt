@@ -9,6 +9,8 @@ mod laws;
 mod plays;
 mod reading;
 mod start;
+#[cfg(test)]
+mod tests;
 mod turns;
 mod view;
 mod writing;
