@@ -1,0 +1,291 @@
+-- What the table asks of each step, and of its start.
+use Rattle.std.proofs.Common.{◌≡◌, ◌≢◌, ℕ, zero, suc, ◌+◌, ◌%◌, ◌^◌, ◌<◌, ◌≤◌, ◌⊎◌, true, false, eqb, List, [], ◌∷◌, ◌++◌, Option, Some, None, length, get_or, set, length-set, refl, sym, ap, ◌∙◌, subst, ⊎_elim, inl, inr, true≢false, arith}
+use Rattle.std.proofs.lemmas.List.{length-replicate}
+use mathlib.Core.Option as maybe
+use mathlib.Core.Option.{some-ne-none, some-injective}
+use lib.ListN.{get_elem?}
+use prog.Atomic.{either}
+use Rattle.atomic_table.specs.Table.{step, Allows, Splits, Joins, Valid, homes_after, carried_after, opening}
+use Rattle.atomic_table.proofs.Lists.{at_set, set_else}
+use Rattle.mx_core.specs.declared.history.Stored.{Stored}
+use Rattle.mx_core.specs.declared.machine.Block.{Block}
+use Rattle.mx_core.specs.History.{Law}
+use Rattle.mx_core.specs.State.{start, count_of}
+use Rattle.mx_core.proofs.Blocks.{block_at-start}
+use Rattle.mx_core.proofs.Reached.{reached_start}
+use Rattle.mx_lanes.specs.Held.{Held, StandsFor, empty}
+use Rattle.mx_lanes.proofs.Stands.{stands_empty}
+use Rattle.mx_front.specs.declared.board.Key.{Key}
+use Rattle.mx_front.specs.declared.view.Role.{Role}
+use Rattle.mx_front.specs.declared.view.Role.TheVariants.{Reader, Maker, Pen}
+use Rattle.mx_front.specs.declared.view.Turn.TheVariants.{Has}
+use Rattle.mx_front.specs.declared.view.View.{View}
+use Rattle.mx_front.specs.World.{Slot, Core, World, words_of, Good, Plays, Knows, Ruled, opening_view}
+use Rattle.mx_front.specs.Told.{Sat, block_at, claimed, came, looked, read_next, drew, put, left, learned, maker_after, pen_after, next_maker, new_pen, reader_of, both, hearing, spent}
+use Rattle.mx_front.proofs.Worlds.{change, change_here, change_else, begins_longer, begins_shorter}
+use Rattle.mx_front.specs.Laws.{SeesOneHistory}
+use Rattle.mx_front.proofs.Goes.{Goes, pen_is, few_drawn, plays_on, claims, comes, looks, reads, learns}
+use Rattle.mx_front.proofs.Moves.{draws, puts, leaves}
+
+-- the seat after the last
+at_snoc : {A : Type 0} (l : List A) (a b : A) (j : ℕ) → get_elem? (l ++ a ∷ []) j ≡ maybe.some b → (get_elem? l j ≡ maybe.some b) ⊎ ((j ≡ length l) × (a ≡ b))
+at_snoc [] a b zero e = inr (refl, some-injective a b e)
+at_snoc [] a b (suc j) e = absurd (some-ne-none b (sym e))
+at_snoc (x ∷ l) a b zero e = inl e
+at_snoc (x ∷ l) a b (suc j) e = elim (at_snoc l a b j e) [ inl before ↦ inl before | inr last ↦ inr (ap suc last.0, last.1) ]
+
+view_all : {V : Type 0} (P : ℕ → V → Type 0) (vs : List V) (id : ℕ) (w : V) → P id w → ((j : ℕ) (x : V) → j ≢ id → get_elem? vs j ≡ maybe.some x → P j x)
+    → (j : ℕ) (x : V) → get_elem? (set vs id w) j ≡ maybe.some x → P j x
+view_all {V} P vs id w mine others j x e = ⊎_elim (λ (t : (j ≡ id) × (w ≡ x)). subst (λ (z : ℕ × V). P z.0 z.1) (λ i. (sym t.0 i, t.1 i)) mine)
+    (λ (t : (j ≢ id) × (get_elem? vs j ≡ maybe.some x)). others j x t.0 t.1) (at_set vs id j w x e)
+
+-- the world at the start
+abbrev opening_world : {I : Type 0} → Key → World I
+opening_world key = record {
+  line = record { ticket = 0; serving = 0; slot = maybe.some (Some (empty key.writers)); ticket_of = λ t. 0 };
+  core = record { state = start key.writers (2 ^ 48); pen_of = λ k. 0; maker = 0; made = 0; over = λ k. false; room = λ k. 0 };
+}
+
+module _ {I : Type 0} (law : Law I) (key : Key) where
+  allowed : (slots id : ℕ) (v : View I) (c : List (ℕ × Slot I)) (i : ℕ) (f : ℕ → ℕ) (told : ℕ → Sat I → Type 0)
+      → ((w : World I) → Good law key w → Knows key w id v → Goes law key w id c i (f (get_or (words_of w) i 0)) (told (get_or (words_of w) i 0)))
+      → Allows (Ruled law key) slots id (v, c) i f told
+  allowed slots id v c i f told go s r deep at fits =
+      let g = go r.world r.good (r.knows id v at) in (
+        g.view,
+        g.act,
+        subst (λ hs. Valid hs c g.act) (sym r.homes) g.valid,
+        record {
+          world = g.to;
+          words = ap (λ ws. set ws i (f (get_or ws i 0))) r.words ∙ g.words;
+          homes = ap (λ hs. homes_after hs c g.act) r.homes ∙ g.homes;
+          good = g.good;
+          knows = view_all (Knows key g.to) s.views id g.view g.mine (λ j x ne e. g.others j x ne (r.knows j x e));
+        },
+        subst (λ ws. told (get_or ws i 0) (g.view, carried_after c g.act)) (sym r.words) g.tells,
+      )
+
+  pub claims_at : (slots id old : ℕ) (m : Sat I) → Allows (Ruled law key) slots id m 0 (λ n. either (eqb n old) (old + 1) n) (claimed (step slots 0 old (old + 1) maybe.none) m)
+  claims_at slots id old m = allowed slots id m.0 m.1 0 (λ n. either (eqb n old) (old + 1) n) (claimed (step slots 0 old (old + 1) maybe.none) m) (λ w. claims law key slots w id old m.0 m.1)
+
+  pub comes_at : (slots id : ℕ) (m : Sat I) → Allows (Ruled law key) slots id m 1 (λ n. n) (came (step slots 1 0 0 maybe.none) m)
+  comes_at slots id m = allowed slots id m.0 m.1 1 (λ n. n) (came (step slots 1 0 0 maybe.none) m) (λ w. comes law key slots w id m.0 m.1)
+
+  pub looks_at : (slots id t : ℕ) (m : Sat I) → m.0.turn ≡ Has t → Allows (Ruled law key) slots id m 3 (λ n. n) (looked law (step slots 3 0 0 maybe.none) m)
+  looks_at slots id t m is = allowed slots id m.0 m.1 3 (λ n. n) (looked law (step slots 3 0 0 maybe.none) m) (λ w. looks law key slots t w id m.0 m.1 is)
+
+  pub reads_at : (slots id : ℕ) (m : Sat I) → Allows (Ruled law key) slots id m 2 (λ n. n) (read_next (step slots 2 0 0 maybe.none) m)
+  reads_at slots id m = allowed slots id m.0 m.1 2 (λ n. n) (read_next (step slots 2 0 0 maybe.none) m) (λ w. reads law key slots w id m.0 m.1)
+
+  pub learns_at : (slots id : ℕ) (m : Sat I) → Allows (Ruled law key) slots id m 0 (λ n. n) (learned law (step slots 0 0 0 maybe.none) m)
+  learns_at slots id m = allowed slots id m.0 m.1 0 (λ n. n) (learned law (step slots 0 0 0 maybe.none) m) (λ w. learns law key slots w id m.0 m.1)
+
+  pub draws_at : (slots id n pk : ℕ) (m : Sat I) → m.0.who ≡ Pen pk → m.0.block ≡ None → m.0.fresh ≡ true → m.0.read < key.stop → 0 < n → n ≤ 256 → n ≤ m.0.reserve
+      → Allows (Ruled law key) slots id m 2 (λ x. (x + n) % 2 ^ 64) (drew (step slots 2 n 0 maybe.none) m)
+  draws_at slots id n pk m who free fresh below pos small room =
+      allowed slots id m.0 m.1 2 (λ x. (x + n) % 2 ^ 64) (drew (step slots 2 n 0 maybe.none) m) (λ w. draws law key slots n pk w id m.0 m.1 who free fresh below pos small room)
+
+  pub puts_at : (slots id t n : ℕ) (m : Sat I) (x : Stored I) (b : Held I) → m.1 ≡ (0, Some b) ∷ [] → m.0.turn ≡ Has t → m.0.who ≡ Pen x.writer
+      → m.0.block ≡ block_at x.first (length x.items) → law x.writer m.0.own x.first x.items ≡ true → StandsFor (m.0.all ++ x ∷ []) b → n ≡ length m.0.all + 1
+      → length b.spare ≡ length m.0.spares → get_or b.spare x.writer 0 + length x.items ≡ get_or m.0.spares x.writer 0 → ((i : ℕ) → i ≢ x.writer → get_or b.spare i 0 ≡ get_or m.0.spares i 0)
+      → Allows (Ruled law key) slots id m 3 (λ _. n) (λ _. put (step slots 3 n 0 maybe.none) m n)
+  puts_at slots id t n m x b hand turn who block lawful stands count lanes spent others =
+      subst (λ c. Allows (Ruled law key) slots id (m.0, c) 3 (λ _. n) (λ _. put (step slots 3 n 0 maybe.none) (m.0, c) n)) (sym hand)
+      (allowed slots id m.0 ((0, Some b) ∷ []) 3 (λ _. n) (λ _. put (step slots 3 n 0 maybe.none) (m.0, (0, Some b) ∷ []) n)
+      (λ w. puts law key slots t n w id m.0 x b turn who block lawful stands count lanes spent others))
+
+  pub leaves_at : (slots id t : ℕ) (m : Sat I) (b : Held I) → m.1 ≡ (0, Some b) ∷ [] → m.0.turn ≡ Has t → StandsFor m.0.all b → length b.spare ≡ length m.0.spares
+      → ((i : ℕ) → get_or m.0.spares i 0 ≤ get_or b.spare i 0)
+      → Allows (Ruled law key) slots id m 1 (λ _. t + 1) (λ _. left (step slots 1 (t + 1) 0 maybe.none) m (t + 1))
+  leaves_at slots id t m b hand turn stands lanes spares =
+      subst (λ c. Allows (Ruled law key) slots id (m.0, c) 1 (λ _. t + 1) (λ _. left (step slots 1 (t + 1) 0 maybe.none) (m.0, c) (t + 1))) (sym hand)
+      (allowed slots id m.0 ((0, Some b) ∷ []) 1 (λ _. t + 1) (λ _. left (step slots 1 (t + 1) 0 maybe.none) (m.0, (0, Some b) ∷ []) (t + 1))
+      (λ w. leaves law key slots t w id m.0 b turn stands lanes spares))
+
+  -- a seat is cut in two
+  record Cuts (w : World I) (id size : ℕ) (first second : View I) : Type 0 where
+    pub to : World I
+    pub good : Good law key to
+    pub mine : Knows key to id first
+    pub new : Knows key to size second
+    pub others : (j : ℕ) (x : View I) → j ≢ id → Knows key w j x → Knows key to j x
+    pub words : words_of w ≡ words_of to
+    pub slot : w.line.slot ≡ to.line.slot
+
+  cut : (id : ℕ) (v first second : View I) → ((w : World I) (size : ℕ) → Good law key w → Knows key w id v → Cuts w id size first second) → Splits (Ruled law key) id v first second
+  cut id v first second go s r at =
+      let g = go r.world (length s.views) r.good (r.knows id v at) in record {
+        world = g.to;
+        words = r.words ∙ g.words;
+        homes = r.homes ∙ ap (λ o. o ∷ []) g.slot;
+        good = g.good;
+        knows = λ j x e. elim (at_snoc (set s.views id first) second x j e) [
+          | inl before ↦ view_all (Knows key g.to) s.views id first g.mine (λ i y ne a. g.others i y ne (r.knows i y a)) j x before
+          | inr last ↦ subst (λ (z : ℕ × View I). Knows key g.to z.0 z.1) (λ i. (sym (last.0 ∙ length-set s.views id first) i, last.1 i)) g.new
+        ];
+      }
+
+  -- a reader that has seen as much
+  pub parts_at : (id : ℕ) (v : View I) → Splits (Ruled law key) id v v (reader_of v)
+  parts_at id v = cut id v v (reader_of v) (λ w size good k. record {
+    to = w;
+    good = good;
+    mine = k;
+    new = record { core = record { sees = k.core.sees; hears = (w.core.state.history, refl); reads = k.core.reads; plays = tt }; queued = tt };
+    others = λ j x ne q. q;
+    words = refl;
+    slot = refl;
+  })
+
+  -- a pen is made
+  pub makes_at : (id n : ℕ) (v : View I) → v.who ≡ Maker n → n < key.writers → Splits (Ruled law key) id v (next_maker v) (new_pen v)
+  makes_at id n v who few = cut id v (next_maker v) (new_pen v) (λ w size good k. made_in w size good k (subst (Plays key w.core id v.own v.block v.reserve v.read v.fresh) who k.core.plays))
+    where
+      made_in : (w : World I) (size : ℕ) → Good law key w → Knows key w id v → (w.core.maker ≡ id) × (w.core.made ≡ n) → Cuts w id size (next_maker v) (new_pen v)
+      made_in w size good k is =
+          let to : Core I = record w.core { pen_of = change w.core.pen_of n size; made = n + 1 } in
+          let u = good.unmade n (omega (arith, is.1)) in record {
+            to = record w { core = to };
+            good = record {
+              ordered = good.ordered;
+              ready = good.ready;
+              kept = good.kept;
+              most = omega (arith, few);
+              unmade = λ j le. let m = good.unmade j (omega (arith, is.1, le)) in record { stores = m.stores; block = m.block; over = m.over; room = m.room };
+              stocked = good.stocked;
+            };
+            mine = record {
+              core = record {
+                sees = k.core.sees;
+                hears = k.core.hears;
+                reads = k.core.reads;
+                plays = subst (λ r. Plays key to id v.own v.block v.reserve v.read v.fresh (maker_after r)) (sym who) (is.0, refl);
+              };
+              queued = k.queued;
+            };
+            new = record {
+              core = record {
+                sees = (w.core.state.history, refl);
+                hears = (w.core.state.history, refl);
+                reads = omega arith;
+                plays = subst (λ r. Plays key to size [] None 0 0 false (pen_after r)) (sym who) (record {
+                  made = omega arith;
+                  seat = change_here w.core.pen_of n size n refl;
+                  own_is = sym u.stores;
+                  block = u.block;
+                  room = u.room;
+                  within = omega arith;
+                  value = λ f o. absurd (true≢false (sym f));
+                });
+              };
+              queued = tt;
+            };
+            others = λ j x ne q. record {
+              core = record {
+                sees = q.core.sees;
+                hears = q.core.hears;
+                reads = q.core.reads;
+                plays = others_play w.core j x size (λ e. ne (sym e ∙ is.0)) is.1 x.who q.core.plays;
+              };
+              queued = q.queued;
+            };
+            words = refl;
+            slot = refl;
+          }
+        where
+          others_play : (w : Core I) (j : ℕ) (x : View I) (size : ℕ) → w.maker ≢ j → w.made ≡ n → (who : Role) → Plays key w j x.own x.block x.reserve x.read x.fresh who
+              → Plays key (record w { pen_of = change w.pen_of n size; made = n + 1 }) j x.own x.block x.reserve x.read x.fresh who
+          others_play w j x size ne made Reader p = tt
+          others_play w j x size ne made (Maker i) p = absurd (ne p.0)
+          others_play w j x size ne made (Pen i) p = record {
+            made = omega (arith, p.made, made);
+            seat = change_else w.pen_of n size i (λ e. omega (arith, p.made, made, e)) ∙ p.seat;
+            own_is = p.own_is;
+            block = p.block;
+            room = p.room;
+            within = p.within;
+            value = p.value;
+          }
+
+  -- two seats become one
+  glued : (id : ℕ) (v : View I) (other : ℕ) (u all : View I) → ((w : World I) → Knows key w id v → Knows key w other u → Knows key w id all) → Joins (Ruled law key) id v other u all spent
+  glued id v other u all go s r at apart there =
+      let mine = r.knows id v at in
+      let theirs = r.knows other u (sym (set_else s.views id other all apart) ∙ there) in record {
+        world = r.world;
+        words = r.words;
+        homes = r.homes;
+        good = r.good;
+        knows = view_all (Knows key r.world) (set s.views id all) other spent
+            (record { core = record { sees = (r.world.core.state.history, refl); hears = (r.world.core.state.history, refl); reads = omega arith; plays = tt }; queued = tt })
+            (λ j x ne e. view_all (Knows key r.world) s.views id all (go r.world mine theirs) (λ i y no a. r.knows i y a) j x e);
+      }
+
+  pub meets_at : (id : ℕ) (v : View I) (other : ℕ) (u : View I) → Joins (Ruled law key) id v other u (both v u) spent
+  meets_at id v other u = glued id v other u (both v u) (λ w k q.
+      let h = w.core.state.history in record {
+        core = record {
+          sees = begins_longer v.seen u.seen h k.core.sees q.core.sees;
+          hears = begins_shorter v.seen u.seen h k.core.sees q.core.sees;
+          reads = omega (arith, k.core.reads, q.core.reads);
+          plays = plays_on key w.core w.core id v (both v u) refl refl
+              (λ i p. record { made = p.made; seat = p.seat; own_is = p.own_is; block = p.block; room = p.room; within = p.within; value = λ f o. omega (arith, p.value f o) }) v.who k.core.plays;
+        };
+        queued = k.queued;
+      })
+
+  pub hears_at : (id : ℕ) (v : View I) (other : ℕ) (u : View I) → Joins (Ruled law key) id v other u (hearing v u) spent
+  hears_at id v other u = glued id v other u (hearing v u) (λ w k q. record {
+    core = record { sees = k.core.sees; hears = q.core.sees; reads = k.core.reads; plays = k.core.plays };
+    queued = k.queued;
+  })
+
+  -- the start
+  pub opens : 1 ≤ key.writers → key.writers ≤ 16 → key.stop ≤ 281474976694272 → Ruled law key (opening (0 ∷ 0 ∷ 0 ∷ 0 ∷ []) (Some (empty key.writers) ∷ []) opening_view)
+  opens some few small = record {
+    world = opening_world key;
+    words = refl;
+    homes = refl;
+    good = record {
+      ordered = omega arith;
+      ready = λ e. tt;
+      kept = record {
+        reached = reached_start key.writers (2 ^ 48);
+        limit = refl;
+        writers = length-replicate {A = Option Block} key.writers None;
+        few = few;
+        small = small;
+        bound = omega arith;
+        over_is = λ k o. absurd (true≢false (sym o));
+        blocks = λ k. omega (arith, ap count_of (block_at-start key.writers k));
+        lawful = refl;
+      };
+      most = omega arith;
+      unmade = λ k le. record { stores = refl; block = block_at-start key.writers k; over = refl; room = refl };
+      stocked = record { stands = stands_empty key.writers; rooms = λ k. omega arith; count = length-replicate {A = ℕ} key.writers 0 };
+    };
+    knows = first;
+  }
+    where
+      first : (j : ℕ) (v : View I) → get_elem? (opening_view ∷ []) j ≡ maybe.some v → Knows key (opening_world key) j v
+      first zero v e = subst (Knows key (opening_world key) 0) (some-injective opening_view v e) (record {
+        core = record { sees = ([], refl); hears = ([], refl); reads = omega arith; plays = (refl, refl) };
+        queued = tt;
+      })
+      first (suc j) v e = absurd (some-ne-none v (sym e))
+
+-- the interleaving law
+pub one_history : {I : Type 0} (law : Law I) → SeesOneHistory law
+one_history law key s r =
+    let w = r.world.core in
+    let kept = r.good.kept in record {
+      state = w.state;
+      reached = kept.reached;
+      next = ap (λ ws. get_or ws 2 0) r.words;
+      count = ap (λ ws. get_or ws 3 0) r.words;
+      below = omega (arith, few_drawn law key w.state w.over kept, kept.small);
+      lawful = kept.lawful;
+      seen = λ j v at. (r.knows j v at).core.sees;
+      pens = λ j v k at who. let p = pen_is key w j v k (r.knows j v at).core who in record { own_is = p.own_is; block = sym p.block };
+      one_pen = λ i j u v k a b who same. sym (pen_is key w i u k (r.knows i u a).core who).seat ∙ (pen_is key w j v k (r.knows j v b).core same).seat;
+    }

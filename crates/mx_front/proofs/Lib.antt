@@ -1,0 +1,7 @@
+pub mod Worlds
+pub mod Goes
+pub mod Moves
+pub mod Allowed
+pub mod Seats
+pub mod Meetings
+pub mod Openings

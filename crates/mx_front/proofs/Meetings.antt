@@ -1,0 +1,103 @@
+-- What a draw asks, and what two seats that meet have seen, over plain values.
+use Rattle.std.proofs.Common.{◌≡◌, ℕ, ◌+◌, ◌%◌, ◌^◌, ◌<◌, ◌≤◌, true, List, [], ◌∷◌, ◌++◌, None, length, length-append, append-nil, leb, refl, sym, ap, ap₂, ◌∙◌, subst, inl, inr, arith, le-leb}
+use Rattle.std.proofs.lemmas.Bool.{cases_Bool}
+use mathlib.Core.Option as maybe
+use Rattle.atomic_table.specs.Table.{step, Allows}
+use Rattle.mx_core.specs.History.{own, Begins, Law, keeps_law}
+use Rattle.mx_core.proofs.Histories.{begins_self}
+use Rattle.mx_core.proofs.Owns.{begins_own}
+use Rattle.mx_front.specs.declared.board.Key.{Key}
+use Rattle.mx_front.specs.declared.view.Role.TheVariants.{Pen}
+use Rattle.mx_front.specs.declared.view.Turn.TheVariants.{Idle}
+use Rattle.mx_front.specs.declared.view.View.{View}
+use Rattle.mx_front.specs.World.{Ruled}
+use Rattle.mx_front.specs.Told.{Sat, drew, longer, shorter, Learned, reader_of, both, hearing}
+use Rattle.mx_front.specs.Calls.{Meets, Notes}
+use Rattle.mx_front.proofs.Worlds.{begins_one, shorter_longer}
+use Rattle.mx_front.proofs.Allowed.{draws_at}
+
+module _ {A : Type 0} where
+  -- both lists begin the longer one
+  begins_first : (xs ys : List A) → Begins (shorter xs ys) (longer xs ys) → Begins xs (longer xs ys)
+  begins_first xs ys b = elim (cases_Bool (leb (length ys) (length xs))) [ inl is ↦ rw is (begins_self xs) | inr not ↦ rw not (rw not at b) ]
+
+  begins_second : (xs ys : List A) → Begins (shorter xs ys) (longer xs ys) → Begins ys (longer xs ys)
+  begins_second xs ys b = elim (cases_Bool (leb (length ys) (length xs))) [ inl is ↦ rw is (rw is at b) | inr not ↦ rw not (begins_self ys) ]
+
+  -- in the other order
+  begins_turned : (xs ys : List A) → Begins (shorter ys xs) (longer ys xs) → Begins (shorter xs ys) (longer xs ys)
+  begins_turned xs ys b = begins_one xs ys (longer ys xs) (begins_second ys xs b) (begins_first ys xs b)
+
+  -- of the longer and the shorter
+  longer_again : (xs ys : List A) → longer (longer xs ys) (shorter xs ys) ≡ longer xs ys
+  longer_again xs ys = rw (le-leb (length (shorter xs ys)) (length (longer xs ys)) (shorter_longer xs ys)) refl
+
+  shorter_again : (xs ys : List A) → shorter (longer xs ys) (shorter xs ys) ≡ shorter xs ys
+  shorter_again xs ys = rw (le-leb (length (shorter xs ys)) (length (longer xs ys)) (shorter_longer xs ys)) refl
+
+  no_rest : (xs rest : List A) → length rest ≡ 0 → xs ++ rest ≡ xs
+  no_rest xs [] e = append-nil xs
+  no_rest xs (x ∷ rest) e = absurd (omega arith)
+
+  begins_same : (xs ys : List A) → Begins xs ys → Begins ys xs → xs ≡ ys
+  begins_same xs ys a b = sym (a.1 ∙ no_rest xs a.0 (omega (arith, ap length a.1, ap length b.1, length-append xs a.0, length-append ys b.0)))
+
+  longer_of : (P : List A → Type 0) (xs ys : List A) → P xs → P ys → P (longer xs ys)
+  longer_of P xs ys p q = elim (cases_Bool (leb (length ys) (length xs))) [ inl is ↦ rw is p | inr not ↦ rw not q ]
+
+module _ {I : Type 0} (law : Law I) where
+  -- a pen that has read the word below the stop may draw
+  pub drawable : (key : Key) (slots id n pk r : ℕ) (m m1 : Sat I) → m1 ≡ (record m.0 { read = r; fresh = true }, m.1) → m.0.who ≡ Pen pk → m.0.block ≡ None → r < key.stop → 0 < n → n ≤ 256 → n ≤ m.0.reserve
+      → Allows (Ruled law key) slots id m1 2 (λ x. (x + n) % 2 ^ 64) (drew (step slots 2 n 0 maybe.none) m1)
+  drawable key slots id n pk r m m1 is who free below pos small room =
+      subst (λ (y : Sat I). Allows (Ruled law key) slots id y 2 (λ x. (x + n) % 2 ^ 64) (drew (step slots 2 n 0 maybe.none) y)) (sym is)
+      (draws_at law key slots id n pk (record m.0 { read = r; fresh = true }, m.1) who free refl below pos small room)
+
+  -- what a pass knows after a meeting
+  pub record HasMet (v u : View I) (m : Sat I) : Type 0 where
+    pub rests : (m.0.turn ≡ Idle) × (m.1 ≡ [])
+    pub meets : Meets law v u m.0
+
+  pub has_met : (m m1 m2 u : Sat I) → (m.0.turn ≡ Idle) × (m.1 ≡ []) → m1 ≡ (both m.0 u.0, m.1) → (m2 ≡ m1) × Learned law m1.0 → HasMet m.0 u.0 m2
+  has_met m m1 m2 u rests joined told =
+      let xs = m.0.seen in
+      let ys = u.0.seen in
+      let l : Learned law (both m.0 u.0) = subst (λ (y : Sat I). Learned law y.0) joined told.1 in
+      let b : Begins (shorter xs ys) (longer xs ys) = subst (λ z. Begins z (longer xs ys)) (shorter_again xs ys) (subst (Begins (shorter (longer xs ys) (shorter xs ys))) (longer_again xs ys) l.begins) in
+      subst (HasMet m.0 u.0) (sym (told.0 ∙ joined)) (record {
+        rests = rests;
+        meets = record {
+          seen = refl;
+          first = begins_first xs ys b;
+          second = begins_second xs ys b;
+          lawful = ap (keeps_law law []) (sym (longer_again xs ys)) ∙ l.lawful;
+          read = refl;
+          looks = refl;
+        };
+      })
+
+  -- what a pass knows after a note
+  notes : (k : ℕ) (v u : View I) → own v.seen k ≡ v.own → v.who ≡ Pen k → keeps_law law [] v.seen ≡ true → keeps_law law [] u.seen ≡ true → Learned law (hearing v u)
+      → Notes law k v u (both u (reader_of (hearing v u)))
+  notes k v u complete who pen pass l =
+      let b : Begins (shorter u.seen v.seen) (longer u.seen v.seen) = begins_turned u.seen v.seen l.begins in
+      let before : Begins (own u.seen k) v.own = l.heard k who in
+      let noted : Begins v.seen (longer u.seen v.seen) = begins_second u.seen v.seen b in record {
+        first = begins_first u.seen v.seen b;
+        second = noted;
+        before = before;
+        after = longer_of (λ z. Begins v.seen z → own z k ≡ v.own) u.seen v.seen
+            (λ c. begins_same (own u.seen k) v.own before (subst (λ z. Begins z (own u.seen k)) complete (begins_own v.seen u.seen k c)))
+            (λ c. complete) noted;
+        lawful = longer_of (λ z. keeps_law law [] z ≡ true) u.seen v.seen pass pen;
+        read = refl;
+        looks = refl;
+      }
+
+  pub noted : (k : ℕ) (p p1 p2 q q1 q2 s t : Sat I) → q1 ≡ (q.0, q.1) → s ≡ (reader_of q.0, []) → p1 ≡ (hearing p.0 s.0, p.1) → (p2 ≡ p1) × Learned law p1.0 → t ≡ (reader_of p2.0, []) → q2 ≡ (both q1.0 t.0, q1.1)
+      → own p.0.seen k ≡ p.0.own → p.0.who ≡ Pen k → keeps_law law [] p.0.seen ≡ true → keeps_law law [] q.0.seen ≡ true → Notes law k p.0 q.0 q2.0
+  noted k p p1 p2 q q1 q2 s t kept parted heard told split joined complete who pen pass =
+      let e : p1.0 ≡ hearing p.0 q.0 = ap (λ (y : Sat I). y.0) heard ∙ ap (λ (y : Sat I). hearing p.0 y.0) parted in
+      let u : t.0 ≡ reader_of (hearing p.0 q.0) = ap (λ (y : Sat I). y.0) split ∙ ap reader_of (ap (λ (y : Sat I). y.0) told.0 ∙ e) in
+      let is : q2.0 ≡ both q.0 (reader_of (hearing p.0 q.0)) = ap (λ (y : Sat I). y.0) joined ∙ ap₂ both (ap (λ (y : Sat I). y.0) kept) u in
+      subst (Notes law k p.0 q.0) (sym is) (notes k p.0 q.0 complete who pen pass (subst (Learned law) e told.1))

@@ -1,0 +1,85 @@
+-- What the calls of a stream do to what a pen or a pass knows.
+use Rattle.std.specs.Prelude.{◌≡◌, ℕ, ◌+◌, ◌^◌, ◌<◌, ◌≤◌, true, List, [], ◌∷◌, ◌++◌, None, length, max}
+use Rattle.mx_core.specs.declared.history.Stored.{Stored}
+use Rattle.mx_core.specs.Front.{IsFront}
+use Rattle.mx_core.specs.History.{own, stored_count, Begins, Law, keeps_law}
+use Rattle.mx_lanes.specs.Parts.{Taken, IsUpTo}
+use Rattle.mx_front.specs.declared.handles.Drawn.{Drawn}
+use Rattle.mx_front.specs.declared.handles.Full.{Full}
+use Rattle.mx_front.specs.declared.view.View.{View}
+use Rattle.mx_front.specs.Told.{drawing, longer, Above}
+
+-- a block was drawn: the word was read below the stop, and then at the position before the block
+pub record Draws {I : Type 0} (v : View I) (stop n : ℕ) (d : Drawn) (v' : View I) : Type 0 where
+  pub count : d.count ≡ n
+  pub before : ℕ
+  pub first : d.first ≡ before + 1
+  pub view : v' ≡ drawing v before n
+  pub read : ℕ
+  pub later : v.read ≤ read
+  pub below : read < stop
+  pub last : before + n < 2 ^ 48
+  -- the block lies after the stores of its writer
+  pub above : Above v.own before
+
+-- the stream was found full: the word was read at the stop or past it
+pub record Fills {I : Type 0} (v : View I) (stop : ℕ) (f : Full) (v' : View I) : Type 0 where
+  pub full : stop ≤ f.next
+  pub later : v.read ≤ f.next
+  pub view : v' ≡ record v { read = f.next; fresh = true }
+
+-- a store was made: what the pen has seen ends with it
+pub record Finishes {I : Type 0} (law : Law I) (v : View I) (x : Stored I) (f : ℕ) (v' : View I) : Type 0 where
+  pub before : List (Stored I)
+  pub begins : Begins v.seen before
+  pub mine : own before x.writer ≡ v.own
+  pub seen : v'.seen ≡ before ++ x ∷ []
+  pub own_is : v'.own ≡ v.own ++ x ∷ []
+  pub block : v'.block ≡ None
+  pub front : IsFront v'.seen f
+  pub lawful : keeps_law law [] v'.seen ≡ true
+  pub reserve : v.reserve ≤ v'.reserve + length x.items
+  pub read : v'.read ≡ v.read
+  pub fresh : v'.fresh ≡ v.fresh
+
+-- room was made: nothing else changed
+pub record Roomier {I : Type 0} (v v' : View I) : Type 0 where
+  pub reserve : v.reserve ≤ v'.reserve
+  pub seen : v'.seen ≡ v.seen
+  pub own_is : v'.own ≡ v.own
+  pub block : v'.block ≡ v.block
+  pub read : v'.read ≡ v.read
+  pub fresh : v'.fresh ≡ v.fresh
+
+-- a look: the pass has then seen the stores at that moment
+pub record Looks {I : Type 0} (law : Law I) (v v' : View I) : Type 0 where
+  pub begins : Begins v.seen v'.seen
+  pub looks : v'.looks ≡ v.looks + 1
+  pub lawful : keeps_law law [] v'.seen ≡ true
+  pub read : v'.read ≡ v.read
+  pub reads : v'.read ≤ stored_count v'.seen + 4096
+
+-- the items up to the front of what was seen
+pub record Shows {I : Type 0} (seen : List (Stored I)) (taken : Taken I) : Type 0 where
+  pub front : ℕ
+  pub is : IsFront seen front
+  pub parts : IsUpTo seen front taken
+
+-- two passes met: the first has seen the longer of the two lists, and both begin it
+pub record Meets {I : Type 0} (law : Law I) (v u v' : View I) : Type 0 where
+  pub seen : v'.seen ≡ longer v.seen u.seen
+  pub first : Begins v.seen v'.seen
+  pub second : Begins u.seen v'.seen
+  pub lawful : keeps_law law [] v'.seen ≡ true
+  pub read : v'.read ≡ max v.read u.read
+  pub looks : v'.looks ≡ v.looks
+
+-- a pass noted what a pen has seen: the stores of the pen's writer k that the pass had seen begin the pen's own list, and then are just these
+pub record Notes {I : Type 0} (law : Law I) (k : ℕ) (pen v v' : View I) : Type 0 where
+  pub first : Begins v.seen v'.seen
+  pub second : Begins pen.seen v'.seen
+  pub before : Begins (own v.seen k) pen.own
+  pub after : own v'.seen k ≡ pen.own
+  pub lawful : keeps_law law [] v'.seen ≡ true
+  pub read : v'.read ≡ max v.read pen.read
+  pub looks : v'.looks ≡ v.looks

@@ -1,0 +1,28 @@
+-- What the start of a stream gives.
+use Rattle.std.specs.Prelude.{◌≡◌, ℕ, List, [], length, slice_get, Some}
+use Rattle.atomic_table.specs.Seated.{TableId}
+use Rattle.mx_core.specs.declared.placed.Placed.{Ghosts}
+use Rattle.mx_front.specs.declared.handles.Pen.{Pen}
+use Rattle.mx_front.specs.declared.handles.Pass.{Pass}
+use Rattle.mx_front.specs.declared.view.Role.TheVariants as roles
+use Rattle.mx_front.specs.World.{blank}
+use Rattle.mx_front.specs.Shown.{known, number, place_of_pen, reads, seen_by, place_of_pass}
+
+module _ {I : Type 0} {g : Ghosts I} where
+  -- the pen of a writer, without a store, a block or a reserve, which has seen nothing
+  pub record IsNewPen (at : TableId) (k : ℕ) (p : Pen I g) : Type 0 where
+    pub stream : place_of_pen p ≡ at
+    pub writer : number p ≡ k
+    pub knows : known p ≡ blank (roles.Pen k)
+
+  -- the pens of the writers below a number, in their order
+  pub record AreNewPens (at : TableId) (n : ℕ) (pens : List (Pen I g)) : Type 0 where
+    pub count : length pens ≡ n
+    pub each : (k : ℕ) (p : Pen I g) → slice_get pens k ≡ Some p → IsNewPen at k p
+
+  -- a pass that has seen nothing and never looked
+  pub record IsNewPass (at : TableId) (p : Pass I g) : Type 0 where
+    pub stream : place_of_pass p ≡ at
+    pub seen : seen_by p ≡ []
+    pub read : (reads p).read ≡ 0
+    pub looks : (reads p).looks ≡ 0

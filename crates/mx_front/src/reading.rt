@@ -1,0 +1,90 @@
+//! What a pass does: it looks at the stores, meets another pass, and notes what a pen has seen.
+
+ghost use Rattle.std.specs.Prelude.{◌≡◌, IfOk, IsOk};
+ghost use Rattle.mx_front.specs.Calls.{Looks, Shows, Meets, Notes};
+ghost use Rattle.mx_front.specs.Shown.{place_of, known, number, place_of_pen, reads, seen_by, place_of_pass};
+ghost use Rattle.mx_front.specs.Told.{hearing, reader_of};
+
+use crate::board::TICKET;
+use crate::front::Stream;
+use crate::handles::{Pass, Pen};
+use crate::plays;
+use mx_core::Placed;
+use mx_ids::{Copied, Memory};
+use mx_lanes::Parts;
+use std::alloc::Global;
+use std::sync::Wait;
+
+impl<I: Placed + Copied> Stream<I> {
+    /// The items up to the front, of the stores at this moment. All that the pass had seen is a beginning of these
+    /// stores; the pass has then seen just these, and its number of looks rises by one, also where the answer is
+    /// `Memory`. They have at least as many items as each value of `next` that the pass has kept, less 4,096. Waits
+    /// for its turn at the stream. `Memory` where the allocator refuses the list, or what an item's copy needs.
+    pub fn look<R: Wait>(
+        &self,
+        rt: &R,
+        alloc: Global,
+        pass: &mut Pass<I>,
+    ) -> Result<Parts<I>, Memory>
+        requires stream { place_of_pass pass.old ≡ place_of self.now }
+        ensures stream { place_of_pass pass.new ≡ place_of_pass pass.old }
+        ensures seen { Looks I.lawful (reads pass.old) (reads pass.new) }
+        ensures parts { IfOk result (λ parts. Shows (seen_by pass.new) parts) }
+    {
+        let ticket = self.seize(rt, &mut pass.seat);
+        let parts = self.read_parts(alloc, &mut pass.seat);
+        self.leave(&mut pass.seat, ticket);
+        parts
+    }
+}
+
+impl<I: Placed + Drop> Stream<I> {
+    /// A new pass that has seen what a pass of this stream has seen, and has kept its value of `next`. Always `Ok`: a
+    /// pass takes no memory.
+    pub fn pass(&self, from: &mut Pass<I>) -> Result<Pass<I>, Memory>
+        requires stream { place_of_pass from.old ≡ place_of self.now }
+        ensures ok { IsOk result }
+        ensures stream { (place_of_pass from.new ≡ place_of_pass from.old) × IfOk result (λ pass. place_of_pass pass ≡ place_of_pass from.old) }
+        ensures from { reads from.new ≡ reads from.old }
+        ensures pass { IfOk result (λ pass. reads pass ≡ reader_of (reads from.old)) }
+    {
+        let seat = self
+            .table
+            .shared
+            .split_seat::<plays::Parted>(&mut from.seat);
+        Ok(Pass { seat })
+    }
+
+    /// Lets a pass see what another pass of the same stream has seen: the longer of the two lists, which both begin.
+    /// It keeps the greater of their values of `next`, and its own number of looks. Takes no memory.
+    pub fn meet(&self, pass: &mut Pass<I>, other: Pass<I>)
+        requires stream { (place_of_pass pass.old ≡ place_of self.now) × (place_of_pass other ≡ place_of self.now) }
+        ensures stream { place_of_pass pass.new ≡ place_of_pass pass.old }
+        ensures met { Meets I.lawful (reads pass.old) (reads other) (reads pass.new) }
+    {
+        let Pass { seat } = other;
+        let top = &self.table.shared;
+        top.join_seat::<plays::Met>(&mut pass.seat, seat);
+        top.load::<plays::Learned<I>>(&mut pass.seat, TICKET);
+    }
+
+    /// Lets a pass see what a pen of the same stream has seen, and keep the value of `next` that the pen read last. The
+    /// stores of the pen's writer that the pass had seen begin the pen's own list; those that it has seen afterwards
+    /// are just the own list. The pen hears of what the pass had seen, and nothing else of it changes. Always `Ok`: it
+    /// takes no memory.
+    pub fn note(&self, pen: &mut Pen<I>, pass: &mut Pass<I>) -> Result<(), Memory>
+        requires stream { (place_of_pen pen.old ≡ place_of self.now) × (place_of_pass pass.old ≡ place_of self.now) }
+        ensures ok { IsOk result }
+        ensures stream { (place_of_pen pen.new ≡ place_of_pen pen.old) × (number pen.new ≡ number pen.old) × (place_of_pass pass.new ≡ place_of_pass pass.old) }
+        ensures pen { known pen.new ≡ hearing (known pen.old) (reads pass.old) }
+        ensures noted { Notes I.lawful (number pen.old) (known pen.old) (reads pass.old) (reads pass.new) }
+    {
+        let top = &self.table.shared;
+        let seen = top.split_seat::<plays::Parted>(&mut pass.seat);
+        top.join_seat::<plays::Heard>(&mut pen.seat, seen);
+        top.load::<plays::Learned<I>>(&mut pen.seat, TICKET);
+        let told = top.split_seat::<plays::Parted>(&mut pen.seat);
+        top.join_seat::<plays::Met>(&mut pass.seat, told);
+        Ok(())
+    }
+}

@@ -1,0 +1,177 @@
+//! The turn of a seat: a ticket, the book in hand, and the end of the turn.
+
+ghost use Rattle.std.specs.Prelude.{◌≡◌, ◌+◌, ◌^◌, ◌<◌, ◌≤◌, [], ◌∷◌, None, length, slice_index, IfOk, OnOk};
+ghost use Rattle.mx_lanes.specs.Held.{Held};
+ghost use Rattle.mx_lanes.specs.Parts.{IsUpTo};
+ghost use Rattle.mx_front.specs.declared.view.Turn.TheVariants.{Waits};
+ghost use Rattle.mx_front.specs.Told.{Came, leaving};
+ghost use Rattle.mx_front.specs.Turns.{holding, HasBook, Entered, Seized, Ready, Stores, Grown, MayLeave};
+
+use crate::board::{COUNT, Place, SERVING, TICKET};
+use crate::front::Stream;
+use crate::plays;
+use mx_core::Placed;
+use mx_ids::{Copied, Memory, Seq};
+use mx_lanes::{Book, Parts};
+use std::alloc::Global;
+use std::sync::Wait;
+use std::thread::yield_now;
+
+impl<I: Placed + Drop> Stream<I> {
+    /// Takes the next ticket.
+    fn claim<R: Wait>(&self, rt: &R, seat: &mut Place<I>) -> u64
+        requires table { seat.old.table_id ≡ self.now.table.shared.table_id }
+        ensures table { seat.new.table_id ≡ seat.old.table_id }
+        ensures claimed { seat.new.me ≡ (record seat.old.me.0 { turn = Waits result }, seat.old.me.1) }
+        ensures below { result + 1 < 2 ^ 64 }
+    {
+        let top = &self.table.shared;
+        'tries: for _ in rt.forever() {
+            let ticket = top.peek(TICKET);
+            if ticket < u64::MAX {
+                let found = top.compare_exchange::<plays::Claimed>(
+                    seat,
+                    TICKET,
+                    ticket,
+                    ticket + 1,
+                );
+                if found == ticket {
+                    return ticket;
+                }
+            }
+        }
+        unreachable!()
+    }
+
+    /// Waits until a ticket is served, and takes the book.
+    fn come<R: Wait>(&self, rt: &R, seat: &mut Place<I>, ticket: u64)
+        requires table { seat.old.table_id ≡ self.now.table.shared.table_id }
+        requires waits { seat.old.me.0.turn ≡ Waits ticket }
+        ensures table { seat.new.table_id ≡ seat.old.table_id }
+        ensures came { Came seat.old.me ticket seat.new.me }
+    {
+        let top = &self.table.shared;
+        'looks: for _ in rt.forever() {
+            if top.load::<plays::Came>(seat, SERVING) == ticket {
+                return;
+            }
+            yield_now();
+        }
+        unreachable!()
+    }
+
+    /// Waits for a turn, and takes the book. Returns the ticket.
+    pub(crate) fn enter<R: Wait>(&self, rt: &R, seat: &mut Place<I>) -> u64
+        requires table { seat.old.table_id ≡ self.now.table.shared.table_id }
+        requires bare { seat.old.me.1 ≡ [] }
+        ensures table { seat.new.table_id ≡ seat.old.table_id }
+        ensures entered { Entered seat.old.me.0 result seat.new.me }
+    {
+        let ticket = self.claim(rt, seat);
+        self.come(rt, seat, ticket);
+        ticket
+    }
+
+    /// Waits for a turn, takes the book, and looks at its stores. Returns the ticket.
+    pub(crate) fn seize<R: Wait>(&self, rt: &R, seat: &mut Place<I>) -> u64
+        requires table { seat.old.table_id ≡ self.now.table.shared.table_id }
+        requires bare { seat.old.me.1 ≡ [] }
+        ensures table { seat.new.table_id ≡ seat.old.table_id }
+        ensures seized { Seized I.lawful seat.old.me.0 result seat.new.me }
+    {
+        let ticket = self.enter(rt, seat);
+        self.table.shared.load::<plays::Looked<I>>(seat, COUNT);
+        ticket
+    }
+
+    /// Takes the book out of the slot in hand.
+    fn take_book(&self, seat: &mut Place<I>) -> Book<I>
+        requires table { seat.old.table_id ≡ self.now.table.shared.table_id }
+        requires book { HasBook seat.old.me }
+        ensures table { seat.new.table_id ≡ seat.old.table_id }
+        ensures book { seat.old.me.1 ≡ holding result }
+        ensures seat { seat.new.me ≡ (seat.old.me.0, (0, None) ∷ []) }
+    {
+        self.table.shared.exchange(seat, 0, None).unwrap()
+    }
+
+    /// Puts the book back into the slot in hand.
+    fn put_book(&self, seat: &mut Place<I>, book: Book<I>)
+        requires table { seat.old.table_id ≡ self.now.table.shared.table_id }
+        requires empty { seat.old.me.1 ≡ (0, None) ∷ [] }
+        ensures table { seat.new.table_id ≡ seat.old.table_id }
+        ensures seat { seat.new.me ≡ (seat.old.me.0, holding book) }
+    {
+        self.table.shared.exchange(seat, 0, Some(book));
+    }
+
+    /// Stores items in the turn. Returns the front. Takes no memory.
+    pub(crate) fn put_store(
+        &self,
+        seat: &mut Place<I>,
+        writer: u8,
+        first: u64,
+        items: Seq<I>,
+    ) -> u64
+        requires table { seat.old.table_id ≡ self.now.table.shared.table_id }
+        requires ready { (b : Held I) × Ready I.lawful seat.old.me (record { writer = writer; first = first; items = items }) b }
+        ensures table { seat.new.table_id ≡ seat.old.table_id }
+        ensures stored { Stores seat.old.me.0 (record { writer = writer; first = first; items = items }) result seat.new.me }
+    {
+        let mut book = self.take_book(seat);
+        book.store(writer, first, items);
+        let front = book.front();
+        let stores = book.stores();
+        self.put_book(seat, book);
+        self.table.shared.store::<plays::Put>(seat, COUNT, stores);
+        front
+    }
+
+    /// Makes room for `count` items in the writer's lane, in the turn. `Memory` leaves the book as it was.
+    pub(crate) fn more_room(
+        &self,
+        seat: &mut Place<I>,
+        writer: u8,
+        count: u16,
+    ) -> Result<(), Memory>
+        requires table { seat.old.table_id ≡ self.now.table.shared.table_id }
+        requires book { (b : Held I) × (seat.old.me.1 ≡ holding b) × (writer < length b.spare) }
+        ensures table { seat.new.table_id ≡ seat.old.table_id }
+        ensures grown { Grown seat.old.me seat.new.me }
+        ensures room { OnOk result ((b : Held I) → seat.new.me.1 ≡ holding b → count ≤ slice_index b.spare writer) }
+    {
+        let mut book = self.take_book(seat);
+        let made = book.reserve(writer, count);
+        self.put_book(seat, book);
+        made
+    }
+
+    /// Ends the turn: the book goes back, and the next ticket is served.
+    pub(crate) fn leave(&self, seat: &mut Place<I>, ticket: u64)
+        requires table { seat.old.table_id ≡ self.now.table.shared.table_id }
+        requires turn { (b : Held I) × MayLeave seat.old.me ticket b }
+        ensures table { seat.new.table_id ≡ seat.old.table_id }
+        ensures left { (b : Held I) → seat.old.me.1 ≡ holding b → seat.new.me ≡ (leaving seat.old.me.0 b, []) }
+    {
+        self.table
+            .shared
+            .store::<plays::Left>(seat, SERVING, ticket + 1);
+    }
+}
+
+impl<I: Placed + Copied> Stream<I> {
+    /// The items up to the front, in the turn.
+    pub(crate) fn read_parts(&self, alloc: Global, seat: &mut Place<I>) -> Result<Parts<I>, Memory>
+        requires table { seat.old.table_id ≡ self.now.table.shared.table_id }
+        requires book { HasBook seat.old.me }
+        ensures table { seat.new.table_id ≡ seat.old.table_id }
+        ensures grown { Grown seat.old.me seat.new.me }
+        ensures parts { IfOk result (λ parts. (b : Held I) → seat.old.me.1 ≡ holding b → IsUpTo b.history b.front parts) }
+    {
+        let mut book = self.take_book(seat);
+        let front = book.front();
+        let parts = book.up_to(alloc, front);
+        self.put_book(seat, book);
+        parts
+    }
+}

@@ -1,0 +1,72 @@
+//! What a pen does: it draws a block, makes room for it, and stores it.
+
+ghost use Rattle.std.specs.Prelude.{◌≡◌, ◌<◌, ◌≤◌, true, None, length, IfOk, IfErr, OnOk};
+ghost use Rattle.mx_front.specs.Calls.{Draws, Fills, Finishes, Roomier};
+ghost use Rattle.mx_front.specs.Shown.{place_of, stop_of, known, number, place_of_pen};
+ghost use Rattle.mx_front.specs.Told.{block_at};
+
+use crate::board::NEXT;
+use crate::front::Stream;
+use crate::handles::{Drawn, Full, Pen};
+use crate::plays;
+use mx_core::Placed;
+use mx_ids::{Memory, Seq};
+use std::sync::Wait;
+
+impl<I: Placed + Drop> Stream<I> {
+    /// Draws the next `n` positions, 1 to 256, for a pen of this stream that holds no block and has room for them.
+    /// Waits for nobody and takes no memory: one load and one `fetch_add`. The block lies after all stores of the pen's
+    /// writer, and its last position is below 2^48. `Full` exactly where the number of positions that were drawn was
+    /// read at the stream's stop or past it by this call; then nothing is drawn.
+    pub fn draw(&self, pen: &mut Pen<I>, n: u16) -> Result<Drawn, Full>
+        requires stream { place_of_pen pen.old ≡ place_of self.now }
+        requires count { (1 ≤ n) × (n ≤ 256) }
+        requires free { (known pen.old).block ≡ None }
+        requires room { n ≤ (known pen.old).reserve }
+        ensures stream { (place_of_pen pen.new ≡ place_of_pen pen.old) × (number pen.new ≡ number pen.old) }
+        ensures drawn { IfOk result (λ d. Draws (known pen.old) (stop_of self.now) n d (known pen.new)) }
+        ensures full { IfErr result (λ f. Fills (known pen.old) (stop_of self.now) f (known pen.new)) }
+    {
+        let top = &self.table.shared;
+        let next = top.load::<plays::ReadNext>(&mut pen.seat, NEXT);
+        if next >= self.stop {
+            return Err(Full { next });
+        }
+        let last = top.fetch_add::<plays::Drew>(&mut pen.seat, NEXT, u64::from(n));
+        Ok(Drawn {
+            first: last + 1,
+            count: n,
+        })
+    }
+
+    /// Makes room for `n` items of a pen of this stream: its reserve is then at least `n`. Waits for its turn at the
+    /// stream. Where the allocator refuses the room it answers `Memory`, and the reserve is at least what it was.
+    pub fn reserve<R: Wait>(&self, rt: &R, pen: &mut Pen<I>, n: u16) -> Result<(), Memory>
+        requires stream { place_of_pen pen.old ≡ place_of self.now }
+        ensures stream { (place_of_pen pen.new ≡ place_of_pen pen.old) × (number pen.new ≡ number pen.old) }
+        ensures room { OnOk result (n ≤ (known pen.new).reserve) }
+        ensures kept { Roomier (known pen.old) (known pen.new) }
+    {
+        let ticket = self.enter(rt, &mut pen.seat);
+        let made = self.more_room(&mut pen.seat, pen.writer, n);
+        self.leave(&mut pen.seat, ticket);
+        made
+    }
+
+    /// Stores items at the block that a pen of this stream has drawn: as many as the block has positions, and lawful
+    /// after the stores of the pen's writer. Waits for its turn at the stream, and takes no memory. What the pen has
+    /// seen then ends with this store, and the answer is the front of that list.
+    pub fn finish<R: Wait>(&self, rt: &R, pen: &mut Pen<I>, drawn: Drawn, items: Seq<I>) -> u64
+        requires stream { place_of_pen pen.old ≡ place_of self.now }
+        requires block { (known pen.old).block ≡ block_at drawn.first drawn.count }
+        requires count { drawn.count ≡ length items }
+        requires lawful { I.lawful (number pen.old) (known pen.old).own drawn.first items ≡ true }
+        ensures stream { (place_of_pen pen.new ≡ place_of_pen pen.old) × (number pen.new ≡ number pen.old) }
+        ensures stored { Finishes I.lawful (known pen.old) (record { writer = number pen.old; first = drawn.first; items = items }) result (known pen.new) }
+    {
+        let ticket = self.seize(rt, &mut pen.seat);
+        let front = self.put_store(&mut pen.seat, pen.writer, drawn.first, items);
+        self.leave(&mut pen.seat, ticket);
+        front
+    }
+}
