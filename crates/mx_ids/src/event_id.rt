@@ -21,6 +21,7 @@ pub struct EventId {
 pub fn read_event_id(text: &str, server: &str) -> Option<EventId>
     ensures found { MatchOption result ((id : EventId) → IsEventId id → text.now ≢ event_id_text server.now id) (λ id. (text.now ≡ event_id_text server.now id) × IsEventId id) }
     ensures back { (id : EventId) → text.now ≡ event_id_text server.now id → IsEventId id → result ≡ Some id }
+    ensures test { result ≡ event_id_at (2 ^ 64 - 1) server.now text.now }
 {
     event_id_of(text.as_bytes(), server.as_bytes())
 }

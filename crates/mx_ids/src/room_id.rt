@@ -25,6 +25,7 @@ pub struct RoomId {
 pub fn read_room_id(text: &str, server: &str) -> Option<RoomId>
     ensures found { MatchOption result ((id : RoomId) → IsRoomId id → text.now ≢ room_id_text server.now id) (λ id. (text.now ≡ room_id_text server.now id) × IsRoomId id) }
     ensures back { (id : RoomId) → text.now ≡ room_id_text server.now id → IsRoomId id → result ≡ Some id }
+    ensures test { result ≡ room_id_at (2 ^ 64 - 1) server.now text.now }
 {
     room_id_of(text.as_bytes(), server.as_bytes())
 }

@@ -18,4 +18,5 @@ pub use fault::JsonFault;
 pub use laws::{data_is_whole, text_reads_back};
 pub use members::{Member, Members};
 pub use reader::read;
+pub use size::{number_size, text_size};
 pub use value::Json;

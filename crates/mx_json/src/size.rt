@@ -18,7 +18,7 @@ impl Json {
             Json::Null => 4,
             Json::Bool(b) => { if *b { 4 } else { 5 } }
             Json::Int(n) => integer_size(*n),
-            Json::Text(text) => quoted_size(text.as_str()),
+            Json::Text(text) => text_size(text.as_str()),
             Json::List(items) => list_size(items),
             Json::Object(members) => members_size(members),
         }
@@ -52,7 +52,7 @@ fn members_size(members: &Members<Json>) -> u64
     }
     let mut size: u64 = 1;
     for member in members.as_slice() {
-        let key = quoted_size(member.key.as_str());
+        let key = text_size(member.key.as_str());
         size = size
             .saturating_add(key)
             .saturating_add(member.value.size())
@@ -61,9 +61,9 @@ fn members_size(members: &Members<Json>) -> u64
     size
 }
 
-/// The length of a text between quotes.
+/// The length of a text as JSON, between quotes, in bytes; 2^64 - 1 where it is longer. Takes no memory.
 #[tactic(auto, using(crate::proofs::Sizes::quoted_len, crate::proofs::Sizes::escape_more))]
-fn quoted_size(text: &str) -> u64
+pub fn text_size(text: &str) -> u64
     ensures { result ≡ min (length (quoted text.now)) (2 ^ 64 - 1) }
 {
     let mut size: u64 = 2;
@@ -89,15 +89,15 @@ fn integer_size(n: i64) -> u64
     ensures { result ≡ length (signed_decimal n) }
 {
     if n < 0 {
-        1 + decimal_size(n.unsigned_abs())
+        1 + number_size(n.unsigned_abs())
     } else {
-        decimal_size(n as u64)
+        number_size(n as u64)
     }
 }
 
-/// How many digits a number has.
+/// How many decimal digits a number has.
 #[tactic(auto, using(crate::proofs::Sizes::digits_step, crate::proofs::Sizes::one_digit, crate::proofs::Sizes::few_digits))]
-fn decimal_size(n: u64) -> u64
+pub fn number_size(n: u64) -> u64
     ensures value { result ≡ length (decimal n) }
     ensures few { result ≤ 20 }
 {

@@ -1,4 +1,4 @@
-use crate::{Json, JsonFault, Member, Members, read};
+use crate::{Json, JsonFault, Member, Members, number_size, read, text_size};
 use mx_ids::{Copied, Memory, Seq, Text};
 use std::alloc::{AllocError, Global};
 
@@ -95,6 +95,13 @@ fn nested(alloc: Global, depth: usize) -> Result<String, AllocError> {
         s.push(']')?;
     }
     Ok(s)
+}
+
+#[test]
+fn texts_and_numbers_are_measured(rt: HostRuntime) {
+    assert_eq!(rt; text_size("a\n\"b\u{1}"), 14);
+    assert_eq!(rt; number_size(0), 1);
+    assert_eq!(rt; number_size(u64::MAX), 20);
 }
 
 #[test]

@@ -32,8 +32,8 @@ size::members_size-loop-member-preserved t c =
     let ms = c.as_slice-member-items.result.now in
     let m = c.member-item.result in
     let more : take (l.member-index + 1) ms ≡ take l.member-index ms ++ m ∷ [] = grind (arith, common_steps, c.member-item.is, c.loop-member-test.true) in
-    let named = c.quoted_size-key.ensures ∙ ap (λ s. min (length (quoted s)) (2 ^ 64 - 1)) c.as_str.ensures in
-    one_member ms l.member-index m l.size c.quoted_size-key.result c.saturating_add.result c.size.result c.saturating_add-in-loop-member.result c.saturating_add-size.result
+    let named = c.text_size-key.ensures ∙ ap (λ s. min (length (quoted s)) (2 ^ 64 - 1)) c.as_str.ensures in
+    one_member ms l.member-index m l.size c.text_size-key.result c.saturating_add.result c.size.result c.saturating_add-in-loop-member.result c.saturating_add-size.result
     more l.invariant named c.saturating_add.ensures c.size.ensures c.saturating_add-in-loop-member.ensures c.saturating_add-size.ensures
 
 pub size::members_size-returns : goal.size::members_size-returns

@@ -1,5 +1,5 @@
 use Rattle.std.proofs.Common.{◌≡◌, ◌+◌, length, decimal}
-use Rattle.mx_json.proofs.size.decimal_size.Given as goal
+use Rattle.mx_json.proofs.size.number_size.Given as goal
 
 abbrev pub invariant-loop-rest : goal.invariant-loop-rest
 invariant-loop-rest l = l.size + length (decimal l.rest) ≡ 1 + length (decimal l.n)
