@@ -1,0 +1,67 @@
+//! What kind of event an event is, and whom it is about.
+ghost use Rattle.std.specs.Prelude.{◌≡◌, option_map};
+ghost use Rattle.mx_event.specs.Kinds.{has_key, is_of, is_redaction, is_text};
+ghost use Rattle.mx_event.specs.Denied.{gives, is_own, target};
+
+use mx_event::Event;
+use mx_ids::Text;
+
+pub(crate) const CREATE: &str = "m.room.create";
+pub(crate) const JOIN_RULES: &str = "m.room.join_rules";
+pub(crate) const MEMBER: &str = "m.room.member";
+pub(crate) const POWER_LEVELS: &str = "m.room.power_levels";
+const REDACTION: &str = "m.room.redaction";
+
+/// Whether a text is there, and is this one.
+pub(crate) fn is_text(text: &str, found: Option<&Text>) -> bool
+    ensures { result ≡ is_text text.now (option_map (λ t. t.now) found.entry) }
+{
+    match found {
+        Some(found) => found.as_str() == text,
+        None => false,
+    }
+}
+
+/// Whether an event is of a type, whatever its state key.
+pub(crate) fn is_of(kind: &str, event: &Event) -> bool
+    ensures { result ≡ is_of kind.now event.now }
+{
+    event.kind.as_str() == kind
+}
+
+/// Whether an event is the state event of a type and a state key.
+pub(crate) fn has_key(kind: &str, key: &str, event: &Event) -> bool
+    ensures { result ≡ has_key kind.now key.now event.now }
+{
+    is_of(kind, event) && is_text(key, event.state_key.as_ref())
+}
+
+pub(crate) fn is_redaction(event: &Event) -> bool
+    ensures { result ≡ is_redaction event.now }
+{
+    is_of(REDACTION, event) && event.state_key.is_none()
+}
+
+/// Whom a member event is about: its state key.
+pub(crate) fn target(event: &Event) -> &str
+    ensures { result.now ≡ target event.now }
+{
+    match &event.state_key {
+        Some(key) => key.as_str(),
+        None => "",
+    }
+}
+
+/// Whether a member event is about its sender.
+pub(crate) fn is_own(event: &Event) -> bool
+    ensures { result ≡ is_own event.now }
+{
+    event.sender.as_str() == target(event)
+}
+
+/// Whether a member event gives this membership.
+pub(crate) fn gives(membership: &str, event: &Event) -> bool
+    ensures { result ≡ gives membership.now event.now }
+{
+    is_text(membership, event.content.text_at("membership"))
+}

@@ -1,0 +1,16 @@
+//! The authorization rules of a room (Room Version 11, Authorization rules), and the state of a room as they read it.
+#![tactic(auto)]
+
+mod changes;
+mod kept;
+mod kinds;
+mod levels;
+mod membership_rules;
+mod rules;
+mod state;
+mod taken;
+mod verdict;
+
+pub use levels::level;
+pub use state::AuthState;
+pub use verdict::{Denial, allowed};
