@@ -1,5 +1,6 @@
 -- The entries of the stream of account data.
-use Rattle.std.specs.Prelude.{ℕ, ◌&&◌, Bool, true, false, List, Option, Some, None, nat_eq}
+use Rattle.std.specs.Prelude.{ℕ, ◌&&◌, Bool, true, false, List, Option, Some, None, nat_eq, if◌then◌else◌}
+use Rattle.std.specs.Borrow.{Bor}
 use Rattle.std.specs.Str.{bytes_eq}
 use Rattle.mx_ids.specs.declared.room_id.RoomId.{RoomId}
 use Rattle.mx_json.specs.declared.value.Json.{Json}
@@ -30,6 +31,18 @@ same_room None (Some s) = false
 same_room (Some r) None = false
 same_room (Some r) (Some s) = nat_eq r.writer s.writer && nat_eq r.at s.at
 
--- an entry is data of this user, room and type; global data have no room
+-- an entry is of this user and room; global data have no room
+abbrev pub is_of : List ℕ → Option RoomId → Entry → Bool
+is_of user room (entry.Data own_user own_room kind content at) = bytes_eq own_user user && same_room own_room room
+
+-- the type and the content of an entry, if it is data of this user and room
+abbrev pub pair_of : List ℕ → Option RoomId → Entry → Option (List ℕ × Json)
+pair_of user room (entry.Data own_user own_room kind content at) = if bytes_eq own_user user && same_room own_room room then Some (kind, content) else None
+
+-- a type and a content, behind references
+abbrev pub pair_now : Bor (List ℕ) × Bor Json → List ℕ × Json
+pair_now p = (p.0.now, p.1.now)
+
+-- an entry is data of this user, room and type
 abbrev pub is_data_of : List ℕ → Option RoomId → List ℕ → Entry → Bool
 is_data_of user room kind (entry.Data own_user own_room own_kind content at) = bytes_eq own_user user && same_room own_room room && bytes_eq own_kind kind

@@ -1,5 +1,5 @@
-ghost use Rattle.std.specs.Prelude.{◌≡◌};
-ghost use Rattle.mx_account.specs.Entries.{are_placed, placed_at};
+ghost use Rattle.std.specs.Prelude.{◌≡◌, option_map};
+ghost use Rattle.mx_account.specs.Entries.{are_placed, pair_now, pair_of, placed_at};
 
 use mx_core::Placed;
 use mx_ids::{Copied, Memory, RoomId, Text, UserId};
@@ -22,6 +22,24 @@ pub enum Entry {
         /// The item's position in the stream of account data, from 1, below 2^48.
         at: u64,
     },
+}
+
+impl Entry {
+    /// The type and the content of the entry, if it is data of this user and room. Takes no memory.
+    pub(crate) fn pair_of(&self, user: &UserId, room: Option<RoomId>) -> Option<(&Text, &Json)>
+        ensures { option_map pair_now result ≡ pair_of user.now room self.now }
+    {
+        match self {
+            Entry::Data {
+                user: own_user,
+                room: own_room,
+                kind,
+                content,
+                ..
+            } if own_user == user && *own_room == room => Some((kind, content)),
+            Entry::Data { .. } => None,
+        }
+    }
 }
 
 impl Copied for Entry {

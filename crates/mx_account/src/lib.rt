@@ -1,10 +1,12 @@
-//! Account data: the entries of their stream, and the value that one of them has at a position.
+//! Account data: the entries of their stream, the value of a type at a position, and the data that stores set.
 #![tactic(auto)]
 
+mod account_data;
 mod entry;
 #[cfg(test)]
 mod tests;
 mod values;
 
+pub use account_data::data_of;
 pub use entry::Entry;
 pub use values::value;

@@ -4,8 +4,8 @@ ghost use Rattle.std.specs.Prelude.{◌≡◌, ◌+◌, length, IfOk, OnOk};
 ghost use Rattle.mx_account.specs.Entries.{position_of};
 ghost use Rattle.mx_account.specs.Values.{AreInPlace};
 
-use crate::{Entry, value};
-use mx_core::Placed;
+use crate::{Entry, data_of, value};
+use mx_core::{Placed, Stored};
 use mx_ids::{Copied, Memory, RoomId, Seq, Text, UserId, user_id};
 use mx_json::Json;
 use mx_lanes::Parts;
@@ -178,6 +178,54 @@ fn a_value_is_that_of_the_last_entry_up_to_a_position(rt: HostRuntime) -> Result
         let found = value(&list, &user, row.room.as_ref(), &kind, row.a);
         assert_eq!(rt; number_of(found), row.number);
     }
+    Ok(())
+}
+
+/// A store of the puts from one on, the first of which stands at its number.
+fn store(
+    rt: &impl Abort,
+    alloc: Global,
+    first: u64,
+    puts: &[Put],
+) -> Result<Stored<Entry>, Memory> {
+    let mut items = Seq::new(alloc);
+    for put in puts {
+        items.push(entry(rt, alloc, *put, first)?)?;
+    }
+    Ok(Stored {
+        writer: 0,
+        first,
+        items,
+    })
+}
+
+/// Whether the data are numbers under these types, in this order.
+fn are_numbers(data: &[(Text, Json)], expected: &[(&str, i64)]) -> bool {
+    let numbers = data.iter().map(|(kind, content)| (kind.as_str(), number_of(Some(content))));
+    numbers.eq(expected.iter().map(|(kind, number)| (*kind, Some(*number))))
+}
+
+#[test]
+fn data_are_the_last_content_of_each_type(rt: HostRuntime) -> Result<(), Fail> {
+    let alloc = rt.alloc();
+    let mut stores = Vec::new(alloc);
+    stores.push(store(&rt, alloc, 1, &PUTS[..2])?)?;
+    stores.push(store(&rt, alloc, 3, &PUTS[2..])?)?;
+    let alice = user(&rt, alloc, ALICE)?;
+    let bob = user(&rt, alloc, BOB)?;
+    let all = data_of(alloc, &alice, None, stores.as_slice())?;
+    assert!(rt;
+        are_numbers(
+            all.as_slice(),
+            &[("org.example.a", 50), ("org.example.b", 40)]
+        )
+    );
+    let first = data_of(alloc, &alice, None, &stores.as_slice()[..1])?;
+    assert!(rt; are_numbers(first.as_slice(), &[("org.example.a", 10)]));
+    let room = data_of(alloc, &alice, Some(&ROOM), stores.as_slice())?;
+    assert!(rt; are_numbers(room.as_slice(), &[("org.example.a", 30)]));
+    let none = data_of(alloc, &bob, Some(&ROOM), stores.as_slice())?;
+    assert!(rt; are_numbers(none.as_slice(), &[]));
     Ok(())
 }
 

@@ -46,14 +46,8 @@ fn content_for<'a>(
 ) -> Option<&'a Json>
     ensures { option_copied result ≡ (if is_data_of user.now room kind.now entry.now then Some (content_of entry.now) else None) }
 {
-    match entry {
-        Entry::Data {
-            user: own_user,
-            room: own_room,
-            kind: own_kind,
-            content,
-            ..
-        } if own_user == user && *own_room == room && own_kind == kind => Some(content),
-        Entry::Data { .. } => None,
+    match entry.pair_of(user, room) {
+        Some((own_kind, content)) if own_kind == kind => Some(content),
+        _ => None,
     }
 }

@@ -147,7 +147,7 @@ pub when_ok : {T E A : Type 0} (r : Result T E) (x : T) (v a b : A) → r ≡ Ok
 when_ok r x v a b is e = e ∙ ap (λ z. if is_ok z then a else b) is
 
 -- one store's items more among the copies
-items_of-push : {I : Type 0} (ss : List (Stored I)) (s : Stored I) → items_of (ss ++ s ∷ []) ≡ items_of ss ++ s.items
+pub items_of-push : {I : Type 0} (ss : List (Stored I)) (s : Stored I) → items_of (ss ++ s ∷ []) ≡ items_of ss ++ s.items
 items_of-push [] s = append-nil s.items
 items_of-push (t ∷ ss) s = ap (λ l. t.items ++ l) (items_of-push ss s) ∙ sym (append_assoc t.items (items_of ss) s.items)
 

@@ -1,3 +1,3 @@
-mod Books
-mod Orders
+pub mod Books
+pub mod Orders
 pub mod Stands

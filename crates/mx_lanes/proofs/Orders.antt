@@ -135,14 +135,14 @@ reaches_le : {I : Type 0} (base f : ℕ) (ss : List (Stored I)) → Reaches base
 reaches_le base f [] r = omega arith
 reaches_le base f (s ∷ ss) r = let le : base + length s.items ≤ f = reaches_le (base + length s.items) f ss r.2 in omega arith
 
-reaches_stored : {I : Type 0} (base f p : ℕ) (ss : List (Stored I)) → Reaches base ss f → base < p → p ≤ f → is_stored ss p ≡ true
+pub reaches_stored : {I : Type 0} (base f p : ℕ) (ss : List (Stored I)) → Reaches base ss f → base < p → p ≤ f → is_stored ss p ≡ true
 reaches_stored base f p [] r low high = absurd (omega arith)
 reaches_stored base f p (s ∷ ss) r low high = elim (cases_lt (base + length s.items) p) [
   | inl above ↦ stored_tail s ss p (reaches_stored (base + length s.items) f p ss r.2 above high)
   | inr within ↦ stored_head s ss p (omega (arith, r.0)) (omega (arith, r.0))
 ]
 
-reaches_within : {I : Type 0} (base f p : ℕ) (ss : List (Stored I)) → Reaches base ss f → is_stored ss p ≡ true → p ≤ f
+pub reaches_within : {I : Type 0} (base f p : ℕ) (ss : List (Stored I)) → Reaches base ss f → is_stored ss p ≡ true → p ≤ f
 reaches_within base f p [] r e = absurd (false≢true e)
 reaches_within base f p (s ∷ ss) r e = elim (stored_split s ss p e) [
   | inl range ↦ let le : base + length s.items ≤ f = reaches_le (base + length s.items) f ss r.2 in omega (arith, r.0, range.1)

@@ -17,11 +17,11 @@ use Rattle.mxsync.specs.declared.answered.Answered.{Answered}
 use Rattle.mxsync.specs.declared.answered.Answered.TheVariants as answered
 use Rattle.mxsync.specs.declared.asked.Asked.{Asked}
 use Rattle.mxsync.specs.declared.asked.Asked.TheVariants as asked
-use Rattle.mxsync.specs.declared.entry.Entry.{Entry}
+use Rattle.mx_account.specs.declared.entry.Entry.{Entry}
 use Rattle.mxsync.specs.declared.refusal.Parameter.{Parameter}
 use Rattle.mxsync.specs.declared.refusal.Refusal.{Refusal}
 use Rattle.mxsync.specs.declared.refusal.Refusal.TheVariants as refusal
-use Rattle.mxsync.specs.Accounts.{data_of}
+use Rattle.mx_account.specs.Data.{data_of}
 use Rattle.mxsync.specs.Answers.{ahead_of, answer_to, asked_answered, caller_answered, device_answered, device_of, is_object, is_own_type, reply_to, stored_by, sync_answered, unless_refused, user_of, value_answered}
 use Rattle.mxsync.specs.Chains.{Agrees, Client, after_reply, chain, content_at, is_of_device, last_content, new_client, same_token, with_answer, with_exchange, with_reply}
 use Rattle.mxsync.specs.Exchanges.{after, entries_after, exchanges}
@@ -34,7 +34,7 @@ use Rattle.mxsync.proofs.Contents.{content-data_of, last_content-append}
 -- a reply is that of a sync of the user
 abbrev IsReply : List ℕ → List Entry → Answered → Type 0
 IsReply user es (answered.Refused r) = ⊤
-IsReply user es (answered.Stored e) = ⊤
+IsReply user es (answered.Stored owner kind content) = ⊤
 IsReply user es (answered.Synced r) = (since : Option SyncToken) × (r ≡ reply_to user es since)
 
 either : (user : List ℕ) (es : List Entry) (b : Bool) (x y : Answered) → IsReply user es x → IsReply user es y → IsReply user es (cond b x y)
@@ -47,7 +47,7 @@ value_is user kind us es (Err faults.Fraction) = tt
 value_is user kind us es (Err faults.IntegerRange) = tt
 value_is user kind us es (Err faults.Memory) = tt
 value_is user kind us es (Ok content) =
-    let stored = answered.Stored (record { user = user; kind = kind; content = content }) in
+    let stored = answered.Stored user kind content in
     let own = answered.Refused refusal.OwnType in
     either us es (is_object content) (cond (is_own_type kind) own stored) (answered.Refused refusal.NoObject) (either us es (is_own_type kind) own stored tt tt) tt
 
@@ -93,7 +93,7 @@ begins users device es = (within es, λ kind. content-data_of (user_of users dev
 
 -- the account data after one more reply
 goes_on : (user kind : List ℕ) (es : List Entry) (a b : ℕ) (held : Option Json) → a ≡ b → held ≡ last_content user kind (take a es)
-    → option_or (content_at (data_of user (drop b es)) kind) held ≡ last_content user kind (take (length es) es)
+    → option_or (content_at (data_of user None (drop b es)) kind) held ≡ last_content user kind (take (length es) es)
 goes_on user kind es a b held same h =
     ap (λ o. option_or o held) (content-data_of user kind (drop b es))
     ∙ ap (option_or (last_content user kind (drop b es))) (h ∙ ap (λ n. last_content user kind (take n es)) same)
@@ -124,22 +124,22 @@ continues users device es (Some c) (Some since) h =
 -- ---- the exchanges
 
 answered_holds : (users : Users) (device : ℕ) (es : List Entry) (client : Option Client) (a : Answered) → IsReply (user_of users device) es a
-    → Holds users device es client → Holds users device (es ++ stored_by a) (with_answer client a)
+    → Holds users device es client → Holds users device (es ++ stored_by es a) (with_answer client a)
 answered_holds users device es client (answered.Refused r) is h = grows users device es [] client h
-answered_holds users device es client (answered.Stored e) is h = grows users device es (e ∷ []) client h
+answered_holds users device es client (answered.Stored user kind content) is h = grows users device es (stored_by es (answered.Stored user kind content)) client h
 answered_holds users device es client (answered.Synced r) is h =
     subst (λ xs. Holds users device xs (with_reply client r r.since)) (sym (append-nil es))
     (subst (λ s. Holds users device es (with_reply client s s.since)) (sym is.1) (continues users device es client is.0 h))
 
 called_holds : (users : Users) (device : ℕ) (es : List Entry) (client : Option Client) (call : Call) (o : Option ℕ) → device_of users call ≡ o → Holds users device es client
-    → Holds users device (es ++ stored_by (answer_to users es call)) (cond (is_of_device device o) (with_answer client (answer_to users es call)) client)
-called_holds users device es client call None e h = grows users device es (stored_by (answer_to users es call)) client h
+    → Holds users device (es ++ stored_by es (answer_to users es call)) (cond (is_of_device device o) (with_answer client (answer_to users es call)) client)
+called_holds users device es client call None e h = grows users device es (stored_by es (answer_to users es call)) client h
 called_holds users device es client call (Some caller) e h =
     let a = answer_to users es call in
-    let Held = λ (b : Bool). Holds users device (es ++ stored_by a) (cond b (with_answer client a) client) in
+    let Held = λ (b : Bool). Holds users device (es ++ stored_by es a) (cond b (with_answer client a) client) in
     ⊎_elim (λ (mine : nat_eq caller device ≡ true).
     subst Held (sym mine) (answered_holds users device es client a (answer_is users es call device (e ∙ ap Some (eqb-true caller device mine))) h))
-    (λ (other : nat_eq caller device ≡ false). subst Held (sym other) (grows users device es (stored_by a) client h))
+    (λ (other : nat_eq caller device ≡ false). subst Held (sym other) (grows users device es (stored_by es a) client h))
     (cases_Bool (nat_eq caller device))
 
 exchange_holds : (users : Users) (device : ℕ) (es : List Entry) (client : Option Client) (call : Call) (memory : Bool) → Holds users device es client

@@ -9,8 +9,10 @@ use Rattle.std.specs.Option.{option_or}
 use Rattle.std.specs.Ordering.{match_ordering}
 use mathlib.Core.Logic.{⊎_elim}
 use Rattle.mx_json.specs.declared.value.Json.{Json}
-use Rattle.mxsync.specs.declared.entry.Entry.{Entry}
-use Rattle.mxsync.specs.Accounts.{set_entry, data_of}
+use Rattle.mx_account.specs.declared.entry.Entry.{Entry}
+use Rattle.mx_account.specs.declared.entry.Entry.TheVariants as entry
+use Rattle.mx_account.specs.Data.{data_of, set_entry}
+use Rattle.mx_account.specs.Entries.{content_of, is_data_of, is_of, same_room}
 use Rattle.mxsync.specs.Chains.{content_at, last_content}
 
 pub or_none : {A : Type 0} (o : Option A) → option_or o None ≡ o
@@ -64,29 +66,31 @@ earlier true c later here = or_or later (Some c) here
 earlier false c later here = ap (λ o. option_or o here) (sym (or_none later))
 
 folded : (user kind : List ℕ) (known : List (List ℕ × Json)) (es : List Entry)
-    → content_at (fold set_entry known (filter (λ e. bytes_eq e.user user) es)) kind ≡ option_or (last_content user kind es) (content_at known kind)
+    → content_at (fold set_entry known (filter (is_of user None) es)) kind ≡ option_or (last_content user kind es) (content_at known kind)
 folded user kind known [] = refl
-folded user kind known (e ∷ es) =
-    let mine = λ (x : Entry). bytes_eq x.user user in
-    let later = last_content user kind es in
-    let both = λ (b : Bool). content_at (fold set_entry known (cond b (e ∷ filter mine es) (filter mine es))) kind in
-    let said = λ (b : Bool). option_or (option_or later (cond (b && bytes_eq e.kind kind) (Some e.content) None)) (content_at known kind) in
-    ⊎_elim (λ (h : bytes_eq e.user user ≡ true).
+folded user kind known (entry.Data own_user own_room own_kind content at ∷ es) =
+    let e : Entry = entry.Data own_user own_room own_kind content at in
+    let mine : List Entry = filter (is_of user None) es in
+    let later : Option Json = last_content user kind es in
+    let both = λ (b : Bool). content_at (fold set_entry known (cond b (e ∷ mine) mine)) kind in
+    let said = λ (b : Bool). option_or (option_or later (cond (b && bytes_eq own_kind kind) (Some content) None)) (content_at known kind) in
+    let is_mine : Bool = bytes_eq own_user user && same_room own_room None in
+    ⊎_elim (λ (h : is_mine ≡ true).
     ap both h
     ∙ folded user kind (set_entry known e) es
-    ∙ ap (option_or later) (content-insert_entry known e.kind e.content kind)
-    ∙ earlier (bytes_eq e.kind kind) e.content later (content_at known kind)
+    ∙ ap (option_or later) (content-insert_entry known own_kind content kind)
+    ∙ earlier (bytes_eq own_kind kind) content later (content_at known kind)
     ∙ ap said (sym h))
-    (λ (h : bytes_eq e.user user ≡ false).
+    (λ (h : is_mine ≡ false).
     ap both h ∙ folded user kind known es ∙ ap (λ o. option_or o (content_at known kind)) (sym (or_none later)) ∙ ap said (sym h))
-    (cases_Bool (bytes_eq e.user user))
+    (cases_Bool is_mine)
 
 -- account data hold under each type the content that was put last
-pub content-data_of : (user kind : List ℕ) (es : List Entry) → content_at (data_of user es) kind ≡ last_content user kind es
+pub content-data_of : (user kind : List ℕ) (es : List Entry) → content_at (data_of user None es) kind ≡ last_content user kind es
 content-data_of user kind es = folded user kind [] es ∙ or_none (last_content user kind es)
 
 pub last_content-append : (user kind : List ℕ) (es more : List Entry) → last_content user kind (es ++ more) ≡ option_or (last_content user kind more) (last_content user kind es)
 last_content-append user kind [] more = sym (or_none (last_content user kind more))
 last_content-append user kind (e ∷ es) more =
-    let here = cond (bytes_eq e.user user && bytes_eq e.kind kind) (Some e.content) None in
+    let here = cond (is_data_of user None kind e) (Some (content_of e)) None in
     ap (λ o. option_or o here) (last_content-append user kind es more) ∙ sym (or_or (last_content user kind more) (last_content user kind es) here)

@@ -2,8 +2,8 @@ pub mod Agreement
 pub mod CommandLine
 pub mod Contents
 pub mod Indices
-pub mod Latest
 pub mod Lines
+pub mod OneByOne
 pub mod Outcomes
 pub mod Paths
 pub mod Queries

@@ -1,13 +1,16 @@
 -- What a connection has done, turn by turn.
-use Rattle.std.proofs.Common.{◌≡◌, ℕ, zero, suc, ◌+◌, ◌-◌, ◌<◌, inl, inr, List, [], ◌∷◌, ◌++◌, Bool, true, false, ◌||◌, Option, Some, None, length, take, refl, sym, ap, ◌∙◌, subst, append_assoc, append-nil, length-append, add-zero, zero-add, arith, lit<}
+use Rattle.std.proofs.Common.{◌≡◌, ℕ, zero, suc, ◌+◌, ◌-◌, ◌<◌, ◌≤◌, inl, inr, List, [], ◌∷◌, ◌++◌, Bool, true, false, ◌||◌, Option, Some, None, length, take, refl, sym, ap, ◌∙◌, subst, append_assoc, append-nil, length-append, add-zero, zero-add, arith, lit<}
 use Rattle.std.specs.Io.KnownBytes.{prepend_known, Consumes, Appends, Keeps}
 use Rattle.std.proofs.KnownBytes.{Consumes-nil, Appends-nil, Keeps-refl, Consumes-trans, Appends-trans, Consumes-kept}
 use Rattle.mx_ids.specs.declared.users.Users.{Users}
 use Rattle.mx_http.specs.declared.call.Call.{Call}
 use Rattle.mx_http.specs.Calls.{AreCalls, IsCall}
-use Rattle.mxsync.specs.declared.entry.Entry.{Entry}
+use Rattle.mx_account.specs.declared.entry.Entry.{Entry}
 use Rattle.mxsync.specs.declared.connection.End.{End}
 use Rattle.mxsync.specs.declared.connection.End.TheVariants as end
+use Rattle.mxsync.specs.declared.answered.Answered.{Answered}
+use Rattle.mxsync.specs.declared.answered.Answered.TheVariants as answered
+use Rattle.mxsync.specs.Answers.{answer_to, stored_by}
 use Rattle.mxsync.specs.Exchanges.{Exchange, exchange_bytes, exchanges, exchanges_bytes, entries_after, after, bad_request_bytes, request_limit}
 use Rattle.mxsync.specs.Sessions.{AppendsPart, asks_end, all_but_last, IsServed}
 use Rattle.mxsync.specs.declared.connection.Step.{Step}
@@ -38,6 +41,23 @@ entries_after-more users entries (c ∷ calls) [] call memory same = absurd (ome
 entries_after-more users entries (c ∷ calls) (m ∷ marks) call memory same =
     let rest : length marks ≡ length calls = omega arith in
     entries_after-more users (after users entries c m) calls marks call memory rest
+
+-- at most one entry more for each call
+stored_once : (users : Users) (entries : List Entry) (call : Call) (memory : Bool) → length (after users entries call memory) ≤ length entries + 1
+stored_once users entries call true = omega arith
+stored_once users entries call false = omega (arith, length-append entries (stored_by entries (answer_to users entries call)), at_most (answer_to users entries call))
+  where
+    at_most : (a : Answered) → length (stored_by entries a) ≤ 1
+    at_most (answered.Refused r) = omega arith
+    at_most (answered.Stored user kind content) = omega arith
+    at_most (answered.Synced r) = omega arith
+
+length-entries_after : (users : Users) (entries : List Entry) (calls : List Call) (marks : List Bool) → length (entries_after users entries calls marks) ≤ length entries + length calls
+length-entries_after users entries [] marks = omega arith
+length-entries_after users entries (c ∷ calls) [] = omega arith
+length-entries_after users entries (c ∷ calls) (m ∷ marks) =
+    let rest = length-entries_after users (after users entries c m) calls marks in
+    omega (arith, rest, stored_once users entries c m)
 
 length-exchanges : (users : Users) (entries : List Entry) (calls : List Call) (marks : List Bool) → length marks ≡ length calls → length (exchanges users entries calls marks) ≡ length calls
 length-exchanges users entries [] marks same = refl
@@ -115,6 +135,10 @@ has_served-start users left written = record {
     nothing_held : (left : Option (List ℕ)) → left ≡ prepend_known [] left
     nothing_held None = refl
     nothing_held (Some xs) = refl
+
+-- no more entries stand than calls were answered
+pub has_served-few : (users : Users) (left written : Option (List ℕ)) (earlier : ℕ) (now : Moment) → HasServed users left written earlier now → length now.entries ≤ earlier
+has_served-few users left written earlier now h = omega (arith, ap length h.entries_are, length-entries_after users [] h.calls h.marks, h.count)
 
 -- the calls and the bytes with those of a turn that takes a request
 record Further (users : Users) (left written : Option (List ℕ)) (earlier : ℕ) (now : Moment) (closes : Bool) (answer : List ℕ) : Type 0 where

@@ -1,5 +1,5 @@
 -- *Answer*: what a call is answered on the stored entries, and what it stores.
-use Rattle.std.specs.Prelude.{ℕ, ◌||◌, List, [], ◌∷◌, Bool, true, false, Option, Some, None, Result, Ok, Err, option_and_then, unwrap_or, length, drop, position, slice_get, nat_lt, if◌then◌else◌, codes}
+use Rattle.std.specs.Prelude.{ℕ, ◌+◌, ◌||◌, List, [], ◌∷◌, Bool, true, false, Option, Some, None, Result, Ok, Err, option_and_then, unwrap_or, length, drop, position, slice_get, nat_lt, if◌then◌else◌, codes}
 use Rattle.std.specs.Str.{bytes_eq}
 use Rattle.mx_ids.specs.declared.sync_token.SyncToken.{SyncToken}
 use Rattle.mx_ids.specs.declared.users.Users.{Users}
@@ -15,11 +15,12 @@ use Rattle.mxsync.specs.declared.answered.Answered.TheVariants as answered
 use Rattle.mxsync.specs.declared.answered.Reply.{Reply}
 use Rattle.mxsync.specs.declared.asked.Asked.{Asked}
 use Rattle.mxsync.specs.declared.asked.Asked.TheVariants as asked
-use Rattle.mxsync.specs.declared.entry.Entry.{Entry}
+use Rattle.mx_account.specs.declared.entry.Entry.{Entry}
+use Rattle.mx_account.specs.declared.entry.Entry.TheVariants as entry
 use Rattle.mxsync.specs.declared.refusal.Parameter.{Parameter}
 use Rattle.mxsync.specs.declared.refusal.Refusal.{Refusal}
 use Rattle.mxsync.specs.declared.refusal.Refusal.TheVariants as refusal
-use Rattle.mxsync.specs.Accounts.{data_of}
+use Rattle.mx_account.specs.Data.{data_of}
 use Rattle.mxsync.specs.Queries.{since_of}
 use Rattle.mxsync.specs.Routes.{asked_of}
 
@@ -47,7 +48,7 @@ abbrev pub reply_to : List ℕ → List Entry → Option SyncToken → Reply
 reply_to user entries since = record {
   since = since;
   next = token_at (length entries);
-  account = data_of user (drop (position_of since) entries);
+  account = data_of user None (drop (position_of since) entries);
 }
 
 abbrev pub unless_refused : Reply → Option Refusal → Answered
@@ -83,7 +84,7 @@ value_answered user kind (Err faults.Fraction) = answered.Refused refusal.Fracti
 value_answered user kind (Err faults.IntegerRange) = answered.Refused refusal.IntegerRange
 value_answered user kind (Err faults.Memory) = answered.Refused refusal.NotJson
 value_answered user kind (Ok content) =
-    if is_object content then (if is_own_type kind then answered.Refused refusal.OwnType else answered.Stored (record { user = user; kind = kind; content = content }))
+    if is_object content then (if is_own_type kind then answered.Refused refusal.OwnType else answered.Stored user kind content)
     else answered.Refused refusal.NoObject
 
 -- by a caller, of a user's data
@@ -117,8 +118,8 @@ asked_answered users entries call (Some asks) = device_answered users entries ca
 unfoldable pub answer_to : Users → List Entry → Call → Answered
 answer_to users entries call = asked_answered users entries call (asked_of call)
 
--- the entries that an answer stores
-abbrev pub stored_by : Answered → List Entry
-stored_by (answered.Refused r) = []
-stored_by (answered.Stored e) = e ∷ []
-stored_by (answered.Synced r) = []
+-- the entries that an answer stores behind these: one of global data, at the next position
+abbrev pub stored_by : List Entry → Answered → List Entry
+stored_by entries (answered.Refused r) = []
+stored_by entries (answered.Stored user kind content) = entry.Data user None kind content (length entries + 1) ∷ []
+stored_by entries (answered.Synced r) = []

@@ -39,10 +39,10 @@ reply_json r = json.Object (
 
 abbrev pub status_by : Answered → ℕ
 status_by (answered.Refused r) = status_of r
-status_by (answered.Stored e) = 200
+status_by (answered.Stored user kind content) = 200
 status_by (answered.Synced r) = 200
 
 abbrev pub json_by : Answered → Json
 json_by (answered.Refused r) = refusal_json r
-json_by (answered.Stored e) = json.Object []
+json_by (answered.Stored user kind content) = json.Object []
 json_by (answered.Synced r) = reply_json r

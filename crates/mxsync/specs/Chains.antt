@@ -6,7 +6,8 @@ use Rattle.mx_ids.specs.declared.sync_token.SyncToken.{SyncToken}
 use Rattle.mx_ids.specs.declared.users.Users.{Users}
 use Rattle.mx_json.specs.declared.value.Json.{Json}
 use Rattle.mx_http.specs.declared.call.Call.{Call}
-use Rattle.mxsync.specs.declared.entry.Entry.{Entry}
+use Rattle.mx_account.specs.declared.entry.Entry.{Entry}
+use Rattle.mx_account.specs.Entries.{content_of, is_data_of}
 use Rattle.mxsync.specs.declared.answered.Answered.{Answered}
 use Rattle.mxsync.specs.declared.answered.Answered.TheVariants as answered
 use Rattle.mxsync.specs.declared.answered.Reply.{Reply}
@@ -18,10 +19,10 @@ abbrev pub content_at : List (List ℕ × Json) → List ℕ → Option Json
 content_at [] kind = None
 content_at (p ∷ ps) kind = if bytes_eq p.0 kind then Some p.1 else content_at ps kind
 
--- *Picture*, of a user's account data: under a type the content of the last entry that has it
+-- *Picture*, of a user's global account data: under a type the content of the last entry that has it
 abbrev pub last_content : List ℕ → List ℕ → List Entry → Option Json
 last_content user kind [] = None
-last_content user kind (e ∷ es) = option_or (last_content user kind es) (if bytes_eq e.user user && bytes_eq e.kind kind then Some e.content else None)
+last_content user kind (e ∷ es) = option_or (last_content user kind es) (if is_data_of user None kind e then Some (content_of e) else None)
 
 -- *Client*: the token, and the content that it holds under each type
 pub record Client : Type 0 where
@@ -52,7 +53,7 @@ with_reply client r (Some since) = continued client r since
 -- the client after an answer to its device
 abbrev pub with_answer : Option Client → Answered → Option Client
 with_answer client (answered.Refused r) = client
-with_answer client (answered.Stored e) = client
+with_answer client (answered.Stored user kind content) = client
 with_answer client (answered.Synced r) = with_reply client r r.since
 
 -- this is the device's call

@@ -5,7 +5,7 @@ use Rattle.mx_ids.specs.declared.users.Users.{Users}
 use Rattle.mx_json.specs.Texts.{json_text}
 use Rattle.mx_http.specs.declared.call.Call.{Call}
 use Rattle.mx_http.specs.Answers.{response_bytes}
-use Rattle.mxsync.specs.declared.entry.Entry.{Entry}
+use Rattle.mx_account.specs.declared.entry.Entry.{Entry}
 use Rattle.mxsync.specs.Answers.{answer_to, stored_by}
 use Rattle.mxsync.specs.Bodies.{status_by, json_by}
 
@@ -18,7 +18,7 @@ pub record Exchange : Type 0 where
 -- what an exchange leaves stored: nothing where memory was wanting
 abbrev pub after : Users → List Entry → Call → Bool → List Entry
 after users entries call true = entries
-after users entries call false = entries ++ stored_by (answer_to users entries call)
+after users entries call false = entries ++ stored_by entries (answer_to users entries call)
 
 -- the exchanges of these calls, from these entries
 abbrev pub exchanges : Users → List Entry → List Call → List Bool → List Exchange

@@ -4,7 +4,7 @@ pub mod Refusals
 pub mod Routes
 pub mod Queries
 pub mod Parameters
-pub mod Accounts
+pub mod Entries
 pub mod Answers
 pub mod Bodies
 pub mod Exchanges

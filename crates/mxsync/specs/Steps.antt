@@ -4,7 +4,7 @@ use Rattle.std.specs.Io.KnownBytes.{prepend_known, Consumes, Appends, Keeps, IsA
 use Rattle.mx_ids.specs.declared.users.Users.{Users}
 use Rattle.mx_http.specs.declared.call.Call.{Call}
 use Rattle.mx_http.specs.Calls.{AreCalls, IsCall, IsBlank, IsUnfinished, IsFaulty}
-use Rattle.mxsync.specs.declared.entry.Entry.{Entry}
+use Rattle.mx_account.specs.declared.entry.Entry.{Entry}
 use Rattle.mxsync.specs.declared.connection.End.{End}
 use Rattle.mxsync.specs.declared.connection.End.TheVariants as end
 use Rattle.mxsync.specs.declared.connection.Step.{Step}

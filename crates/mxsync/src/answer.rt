@@ -2,15 +2,15 @@
 ghost use Rattle.std.specs.Prelude.{◌≡◌, ◌<◌, ◌≤◌, IfNone, IfOk, IfSome, Ok, drop, length, option_and_then, position, bytes_eq};
 ghost use Rattle.mx_ids.specs.Users.{IsUsers};
 ghost use Rattle.mx_http.specs.Queries.{parameters, query_of};
-ghost use Rattle.mxsync.specs.Answers.{ahead_of, answer_to, caller_answered, device_of, is_object, is_own_type, position_of, put_answered, sync_answered, token_at, user_of, value_answered};
+ghost use Rattle.mxsync.specs.Answers.{ahead_of, answer_to, caller_answered, device_of, is_object, is_own_type, put_answered, sync_answered, user_of, value_answered};
 ghost use Rattle.mxsync.specs.Queries.{since_of};
 
-use crate::account::data_of;
 use crate::answered::{Answered, Reply};
 use crate::asked::{Asked, asked_of};
-use crate::entry::Entry;
+use crate::entries::Entries;
 use crate::refusal::Refusal;
 use crate::sync_query::since_of;
+use mx_account::data_of;
 use mx_http::{Call, query};
 use mx_ids::{Copied, Device, Memory, SyncToken, Text, UserId, Users};
 use mx_json::{Json, JsonFault, read};
@@ -21,7 +21,7 @@ use std::alloc::Global;
 pub fn answer_to(
     alloc: Global,
     users: &Users,
-    entries: &[Entry],
+    entries: &Entries,
     call: &Call,
 ) -> Result<Answered, Memory>
     requires { IsUsers users.now }
@@ -40,7 +40,7 @@ pub fn answer_to(
 fn answer_caller(
     alloc: Global,
     caller: &UserId,
-    entries: &[Entry],
+    entries: &Entries,
     call: &Call,
     asked: Asked,
 ) -> Result<Answered, Memory>
@@ -119,11 +119,11 @@ fn put_content(
         return Ok(Answered::Refused(Refusal::OwnType));
     }
     let user = caller.copy(alloc)?;
-    Ok(Answered::Stored(Entry {
+    Ok(Answered::Stored {
         user,
         kind,
         content,
-    }))
+    })
 }
 
 fn is_object(content: &Json) -> bool
@@ -143,7 +143,7 @@ fn is_own_type(kind: &str) -> bool
 fn sync(
     alloc: Global,
     caller: &UserId,
-    entries: &[Entry],
+    entries: &Entries,
     target: &Text,
 ) -> Result<Answered, Memory>
     ensures { IfOk result (λ answered. answered ≡ sync_answered caller.now entries.now (since_of (parameters (query_of target.now)))) }
@@ -159,34 +159,27 @@ fn sync(
 fn sync_since(
     alloc: Global,
     caller: &UserId,
-    entries: &[Entry],
+    entries: &Entries,
     since: Option<SyncToken>,
 ) -> Result<Answered, Memory>
     ensures { IfOk result (λ answered. answered ≡ sync_answered caller.now entries.now (Ok since)) }
 {
-    let front = entries.len() as u64;
+    let front = entries.front();
     if let Some(refusal) = refusal_of(since, front) {
         return Ok(Answered::Refused(refusal));
     }
-    let account = data_of(alloc, caller, entries_after(entries, since))?;
+    let account = data_of(alloc, caller, None, entries.after(since))?;
     Ok(Answered::Synced(Reply {
         since,
-        next: token_at(front),
+        next: SyncToken {
+            e: 0,
+            r: 0,
+            a: front,
+            d: 0,
+            b: 0,
+        },
         account,
     }))
-}
-
-/// The token at a front of the account data, where the other streams are empty.
-fn token_at(front: u64) -> SyncToken
-    ensures { result ≡ token_at front }
-{
-    SyncToken {
-        e: 0,
-        r: 0,
-        a: front,
-        d: 0,
-        b: 0,
-    }
 }
 
 /// Why a token that a sync is to follow is refused, at a front of the account data.
@@ -230,15 +223,4 @@ fn ahead_of(token: SyncToken, front: u64) -> Option<Refusal>
         });
     }
     None
-}
-
-/// The entries behind the position that a sync follows.
-fn entries_after(entries: &[Entry], since: Option<SyncToken>) -> &[Entry]
-    requires { IfSome since (λ token. token.a ≤ length entries.now) }
-    ensures { result.now ≡ drop (position_of since) entries.now }
-{
-    match since {
-        None => entries,
-        Some(token) => &entries[token.a as usize..],
-    }
 }

@@ -1,14 +1,17 @@
-use crate::entry::Entry;
 use crate::refusal::Refusal;
-use mx_ids::{Seq, SyncToken, Text};
+use mx_ids::{Seq, SyncToken, Text, UserId};
 use mx_json::Json;
 
 /// What a call is answered.
 #[derive(Drop)]
 pub enum Answered {
     Refused(Refusal),
-    /// The entry is stored.
-    Stored(Entry),
+    /// Global account data of a user, which are stored (Client-Server API, Client Config).
+    Stored {
+        user: UserId,
+        kind: Text,
+        content: Json,
+    },
     Synced(Reply),
 }
 

@@ -1,5 +1,5 @@
 //! One connection: its requests are read one after the other, and each is answered before the next is read.
-ghost use Rattle.std.specs.Prelude.{◌≡◌, ◌+◌, ◌<◌, ◌≤◌, List, Bool};
+ghost use Rattle.std.specs.Prelude.{◌≡◌, ◌+◌, ◌<◌, ◌≤◌, List, Bool, length};
 ghost use Rattle.mx_http.specs.declared.call.Call.{Call};
 ghost use Rattle.mx_ids.specs.Users.{IsUsers};
 ghost use Rattle.mx_outside.specs.Causes.{Rose};
@@ -8,10 +8,10 @@ ghost use Rattle.mxsync.specs.Exchanges.{no_memory_text, request_limit};
 ghost use Rattle.mxsync.specs.Sessions.{IsServed};
 ghost use Rattle.mxsync.specs.Steps.{Answers, Refuses, Turns, moment};
 
-use crate::entry::Entry;
+use crate::entries::Entries;
 use crate::respond::respond;
 use mx_http::{Answer, Body, Call, HttpFault, Reader, reader, write_answer};
-use mx_ids::{Seq, Users};
+use mx_ids::Users;
 use mx_outside::{Sink, Source};
 use std::alloc::Global;
 
@@ -68,7 +68,9 @@ pub fn serve_connection<S: Source, K: Sink>(
     let Ok(mut requests) = reader(alloc) else {
         return End::Memory;
     };
-    let mut entries = Seq::new(alloc);
+    let Ok(mut entries) = Entries::new(alloc) else {
+        return End::Memory;
+    };
     'turns: for earlier in 0..REQUEST_LIMIT {
         match turn(
             alloc,
@@ -91,13 +93,14 @@ fn turn<S: Source, K: Sink>(
     alloc: Global,
     users: &Users,
     earlier: u64,
-    entries: &mut Seq<Entry>,
+    entries: &mut Entries,
     requests: &mut Reader,
     input: &mut S,
     output: &mut K,
 ) -> Step
     requires users { IsUsers users.now }
     requires within { earlier < request_limit }
+    requires few { length entries.old ≤ earlier }
     ensures turns { Turns users.now earlier (moment requests.old (S.left input.old) (K.written output.old) entries.old) (moment requests.new (S.left input.new) (K.written output.new) entries.new) result }
     ensures reads { S.faults input.old ≤ S.faults input.new }
     ensures writes { K.faults output.old ≤ K.faults output.new }
@@ -119,12 +122,13 @@ fn answer<K: Sink>(
     alloc: Global,
     users: &Users,
     earlier: u64,
-    entries: &mut Seq<Entry>,
+    entries: &mut Entries,
     call: &Call,
     output: &mut K,
 ) -> Step
     requires users { IsUsers users.now }
     requires within { earlier < request_limit }
+    requires few { length entries.old ≤ earlier }
     ensures answers { Answers users.now earlier call.now entries.old entries.new (K.written output.old) (K.written output.new) result }
     ensures writes { K.faults output.old ≤ K.faults output.new }
     ensures cause { result ≡ Step.Ended End.WriteFault → Rose (K.faults output.old) (K.faults output.new) }

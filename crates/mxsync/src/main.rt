@@ -1,14 +1,13 @@
 //! The sync engine of a Matrix homeserver for local users.
 #![tactic(auto)]
 
-mod account;
 mod answer;
 mod answered;
 mod asked;
 mod body;
 mod chains;
 mod connection;
-mod entry;
+mod entries;
 mod refusal;
 mod respond;
 mod run;

@@ -1,15 +1,23 @@
 use Rattle.std.proofs.Common.{◌<◌, ◌≡◌, arith}
 use Rattle.mxsync.specs.Exchanges.{request_limit}
 use Rattle.mxsync.specs.Steps.{moment}
-use Rattle.mxsync.proofs.Served.{has_served-begins, has_served-next, has_served-ended, has_served-full, has_served-none}
+use Rattle.mxsync.proofs.Served.{has_served-begins, has_served-next, has_served-ended, has_served-few, has_served-full, has_served-none}
 use Rattle.mxsync.proofs.connection.serve_connection.Goals as goal
 
 pub returns-in_default-clause-served : goal.returns-in_default-clause-served
 returns-in_default-clause-served g c = has_served-none c.args.users.now (g.S.Source.left c.args.input.now) (g.K.Sink.written c.args.output.now)
 
+pub returns-in_default-new-clause-served : goal.returns-in_default-new-clause-served
+returns-in_default-new-clause-served g c = has_served-none c.args.users.now (g.S.Source.left c.args.input.now) (g.K.Sink.written c.args.output.now)
+
+pub turn-requires-clause-few : goal.turn-requires-clause-few
+turn-requires-clause-few g c =
+    has_served-few c.args.users.now (g.S.Source.left c.args.input.now) (g.K.Sink.written c.args.output.now) c.turns.earlier
+    (moment c.turns.requests (g.S.Source.left c.turns.input) (g.K.Sink.written c.turns.output) c.turns.entries) c.turns.invariant.served
+
 pub turns-init : goal.turns-init
 turns-init g c = record {
-  served = has_served-begins c.args.users.now (g.S.Source.left c.args.input.now) (g.K.Sink.written c.args.output.now) c.in-Ok.requests c.new-entries.result c.in-Ok.ensures c.new-entries.ensures;
+  served = has_served-begins c.args.users.now (g.S.Source.left c.args.input.now) (g.K.Sink.written c.args.output.now) c.in-Ok.requests c.in-Ok-new.entries c.in-Ok.ensures c.in-Ok-new.ensures;
   reads = omega arith;
   writes = omega arith;
 }

@@ -1,6 +1,6 @@
 use Rattle.std.proofs.Common.{◌≡◌, ◌++◌, map}
-use Rattle.mxsync.specs.Accounts.{pair_now}
-use Rattle.mxsync.proofs.account.copies.Given as goal
+use Rattle.mx_account.specs.Entries.{pair_now}
+use Rattle.mx_account.proofs.account_data.copies.Given as goal
 
 abbrev pub invariant-types : goal.invariant-types
 invariant-types l =
