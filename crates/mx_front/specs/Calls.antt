@@ -18,6 +18,7 @@ pub record Draws {I : Type 0} (v : View I) (stop n : ℕ) (d : Drawn) (v' : View
   pub read : ℕ
   pub later : v.read ≤ read
   pub below : read < stop
+  pub rises : read ≤ before
   pub last : before + n < 2 ^ 48
   -- the block lies after the stores of its writer
   pub above : Above v.own before
