@@ -50,11 +50,11 @@ has_at at o = option_map_or (λ s. sorted.contains nat_cmp s at) o false
 contains-more : (s t : BTreeSet ℕ) (at p : ℕ) → sorted.Updates nat_cmp s t at true → sorted.contains nat_cmp t p ≡ (sorted.contains nat_cmp s p || (p == at))
 contains-more s t at p h =
     h.0 p ∙ ap (λ b. cond b true (sorted.contains nat_cmp s p)) (unsigned_tied at p ∙ nat_eq_equiv.symm at p) ∙ or_swap (p == at) (sorted.contains nat_cmp s p) where
-  or_swap : (a b : Bool) → cond a true b ≡ (b || a)
-  or_swap true true = refl
-  or_swap true false = refl
-  or_swap false true = refl
-  or_swap false false = refl
+      or_swap : (a b : Bool) → cond a true b ≡ (b || a)
+      or_swap true true = refl
+      or_swap true false = refl
+      or_swap false true = refl
+      or_swap false false = refl
 
 -- what is found of a user's positions after another set of them was put
 sent-put : (m n : Positions) (user : List ℕ) (t : BTreeSet ℕ) → tree.Updates (slice_cmp nat_cmp) m n user (Some t)
@@ -93,10 +93,10 @@ pub sent_same : (m n : Positions) (user : List ℕ) (s t : BTreeSet ℕ) → (Is
     → (u : List ℕ) (p : ℕ) → sent_at n u p ≡ sent_at m u p
 sent_same m n user s t h was same u p =
     sent-put m n user t (h (subst (λ o. IsSome o) was refl)) u p ∙ again (bytes_eq user u) refl where
-  again : (b : Bool) → bytes_eq user u ≡ b → cond b (sorted.contains nat_cmp t p) (sent_at m u p) ≡ sent_at m u p
-  again true hit =
-      ap (list_any (tree.is_at (nat_cmp p))) same ∙ ap (has_at p) was ∙ ap (λ q. sent_at m q p) ((bytes_eq-Decides user u).0 hit)
-  again false miss = refl
+      again : (b : Bool) → bytes_eq user u ≡ b → cond b (sorted.contains nat_cmp t p) (sent_at m u p) ≡ sent_at m u p
+      again true hit =
+          ap (list_any (tree.is_at (nat_cmp p))) same ∙ ap (has_at p) was ∙ ap (λ q. sent_at m q p) ((bytes_eq-Decides user u).0 hit)
+      again false miss = refl
 
 -- what holds anyhow holds at an error
 pub on_err : {T E P : Type 0} (r : Result T E) → P → OnErr r P

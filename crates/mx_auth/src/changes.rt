@@ -26,20 +26,20 @@ const SCALARS: [&str; 7] = [
 pub(crate) fn is_well_formed(content: &Json) -> bool
     ensures { result ≡ is_well_formed content.now }
 {
-    are_none_or_ints(SCALARS.as_slice(), content)
-        && is_none_or_ints(content.field("events"))
-        && is_none_or_ints(content.field("notifications"))
-        && is_none_or_levels_of_users(content.field("users"))
+    are_absent_or_ints(SCALARS.as_slice(), content)
+        && is_absent_or_int_map(content.field("events"))
+        && is_absent_or_int_map(content.field("notifications"))
+        && is_absent_or_user_map(content.field("users"))
 }
 
 /// Whether what stands at these keys, where something does, is a whole number.
-fn are_none_or_ints(keys: &[&str], content: &Json) -> bool
+fn are_absent_or_ints(keys: &[&str], content: &Json) -> bool
     ensures { result ≡ list_all (λ key. is_none_or is_int (field key.now content.now)) keys.now }
 {
-    keys.iter().all(|key| is_none_or_int(content.field(*key)))
+    keys.iter().all(|key| is_absent_or_int(content.field(*key)))
 }
 
-fn is_none_or_int(value: Option<&Json>) -> bool
+fn is_absent_or_int(value: Option<&Json>) -> bool
     ensures { result ≡ is_none_or is_int (option_map (λ j. j.now) value.entry) }
 {
     match value {
@@ -48,7 +48,7 @@ fn is_none_or_int(value: Option<&Json>) -> bool
     }
 }
 
-fn is_none_or_ints(value: Option<&Json>) -> bool
+fn is_absent_or_int_map(value: Option<&Json>) -> bool
     ensures { result ≡ is_none_or maps_to_ints (option_map (λ j. j.now) value.entry) }
 {
     match value {
@@ -58,7 +58,7 @@ fn is_none_or_ints(value: Option<&Json>) -> bool
 }
 
 #[tactic(auto, using(crate::proofs::Entries::user_keys))]
-fn is_none_or_levels_of_users(value: Option<&Json>) -> bool
+fn is_absent_or_user_map(value: Option<&Json>) -> bool
     ensures { result ≡ is_none_or maps_users_to_ints (option_map (λ j. j.now) value.entry) }
 {
     match value {
@@ -177,13 +177,7 @@ pub(crate) struct Sender<'a> {
 }
 
 /// Whether a change of an entry of a map of levels passes the sender's level.
-fn passes(
-    map: LevelMap,
-    sender: &Sender,
-    key: &str,
-    old: Option<i64>,
-    new: Option<i64>,
-) -> bool
+fn passes(map: LevelMap, sender: &Sender, key: &str, old: Option<i64>, new: Option<i64>) -> bool
     ensures { result ≡ passes map sender.now.level sender.now.id.now key.now old new }
 {
     match map {
@@ -197,8 +191,7 @@ fn passes(
 fn any_level(keys: &[&str], sender: &Sender, old: &Json, new: &Json) -> bool
     ensures { result ≡ list_any (λ key. passes_level sender.now.level (int_at key.now old.now) (int_at key.now new.now)) keys.now }
 {
-    keys.iter()
-        .any(|key| passes_level(sender.level, old.int_at(*key), new.int_at(*key)))
+    keys.iter().any(|key| passes_level(sender.level, old.int_at(*key), new.int_at(*key)))
 }
 
 /// Whether an entry of the standing map is changed or removed beyond the sender's level.

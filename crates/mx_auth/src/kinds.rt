@@ -7,9 +7,13 @@ use mx_event::Event;
 use mx_ids::Text;
 
 pub(crate) const CREATE: &str = "m.room.create";
+
 pub(crate) const JOIN_RULES: &str = "m.room.join_rules";
+
 pub(crate) const MEMBER: &str = "m.room.member";
+
 pub(crate) const POWER_LEVELS: &str = "m.room.power_levels";
+
 const REDACTION: &str = "m.room.redaction";
 
 /// Whether a text is there, and is this one.

@@ -2,6 +2,7 @@
 #![tactic(auto)]
 
 mod changes;
+mod denial;
 mod kept;
 mod kinds;
 mod levels;
@@ -9,8 +10,9 @@ mod membership_rules;
 mod rules;
 mod state;
 mod taken;
-mod verdict;
+#[cfg(test)]
+mod tests;
 
+pub use denial::{Denial, allowed};
 pub use levels::level;
 pub use state::AuthState;
-pub use verdict::{Denial, allowed};

@@ -65,9 +65,7 @@ fn is_first_join(event: &Event, state: &AuthState) -> bool
 {
     match state.creator() {
         Some(creator) => {
-            state.has_one_event()
-                && is_own(event)
-                && creator.as_str() == event.sender.as_str()
+            state.has_one_event() && is_own(event) && creator.as_str() == event.sender.as_str()
         }
         None => false,
     }
