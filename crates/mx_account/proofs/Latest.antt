@@ -8,7 +8,7 @@ use Rattle.mx_ids.specs.declared.room_id.RoomId.{RoomId}
 use Rattle.std.proofs.lemmas.List.Elements.{filter-append}
 use Rattle.std.proofs.lemmas.List.Sums.{fold-append}
 use Rattle.mx_core.specs.declared.history.Stored.{Stored}
-use Rattle.mx_lanes.specs.Order.{items_of}
+use Rattle.mx_core.specs.History.{items_of}
 use Rattle.mx_account.specs.declared.entry.Entry.{Entry}
 use Rattle.mx_account.specs.declared.entry.Entry.TheVariants as entry
 use Rattle.mx_account.specs.Entries.{is_of, pair_now, pair_of, same_room}

@@ -2,7 +2,7 @@
 
 ghost use Rattle.std.specs.Prelude.{◌≡◌, IfOk, OnOk, filter, fold, map, if◌then◌else◌};
 ghost use Rattle.std.specs.Option.{option_copied};
-ghost use Rattle.mx_lanes.specs.Order.{items_of};
+ghost use Rattle.mx_core.specs.History.{items_of};
 ghost use Rattle.mx_account.specs.Entries.{is_of, pair_now};
 ghost use Rattle.mx_account.specs.Data.{data_of, set_entry};
 

@@ -5,9 +5,9 @@ use Rattle.std.proofs.lemmas.List.{take_rest}
 use Rattle.mx_ids.specs.declared.sync_token.SyncToken.{SyncToken}
 use Rattle.mx_core.specs.declared.history.Stored.{Stored}
 use Rattle.mx_core.specs.Front.{IsFront}
-use Rattle.mx_core.specs.History.{is_stored}
+use Rattle.mx_core.specs.History.{is_stored, items_of}
 use Rattle.mx_core.proofs.Histories.{same_front}
-use Rattle.mx_lanes.specs.Order.{items_of, Reaches}
+use Rattle.mx_lanes.specs.Order.{Reaches}
 use Rattle.mx_lanes.proofs.Books.{items_of-push}
 use Rattle.mx_lanes.proofs.Orders.{reaches_stored, reaches_within}
 use Rattle.mxsync.specs.Entries.{OneByOne}

@@ -1,6 +1,6 @@
 //! The account data that a connection has stored.
 ghost use Rattle.std.specs.Prelude.{◌≡◌, ◌+◌, ◌<◌, ◌≤◌, ◌^◌, [], ◌∷◌, ◌++◌, None, IfOk, IfSome, OnErr, OnOk, drop, length};
-ghost use Rattle.mx_lanes.specs.Order.{items_of};
+ghost use Rattle.mx_core.specs.History.{items_of};
 ghost use Rattle.mx_account.specs.declared.entry.Entry.TheVariants.{Data};
 ghost use Rattle.mxsync.specs.Answers.{position_of};
 
@@ -23,7 +23,7 @@ impl Model for Entries {
     ghost use Rattle.std.specs.Prelude.{◌≡◌, List, length};
     ghost use Rattle.std.specs.Coded.{coded_list};
     ghost use Rattle.mx_account.specs.contracts.entry.Entry as row;
-    ghost use Rattle.mx_lanes.specs.Order.{items_of};
+    ghost use Rattle.mx_core.specs.History.{items_of};
     ghost use Rattle.mx_account.specs.declared.entry.Entry.{Entry};
     ghost use Rattle.mxsync.specs.Entries.{OneByOne};
 

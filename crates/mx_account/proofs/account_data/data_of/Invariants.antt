@@ -1,5 +1,5 @@
 use Rattle.std.proofs.Common.{◌≡◌, drop, filter, fold, map}
-use Rattle.mx_lanes.specs.Order.{items_of}
+use Rattle.mx_core.specs.History.{items_of}
 use Rattle.mx_account.specs.Entries.{is_of, pair_now}
 use Rattle.mx_account.specs.Data.{data_of, set_entry}
 use Rattle.mx_account.proofs.account_data.data_of.Given as goal
