@@ -37,7 +37,7 @@ is_of user room (entry.Data own_user own_room kind content at) = bytes_eq own_us
 
 -- the type and the content of an entry, if it is data of this user and room
 abbrev pub pair_of : List ℕ → Option RoomId → Entry → Option (List ℕ × Json)
-pair_of user room (entry.Data own_user own_room kind content at) = if bytes_eq own_user user && same_room own_room room then Some (kind, content) else None
+pair_of user room (entry.Data own_user own_room kind content at) = if is_of user room (entry.Data own_user own_room kind content at) then Some (kind, content) else None
 
 -- a type and a content, behind references
 abbrev pub pair_now : Bor (List ℕ) × Bor Json → List ℕ × Json
@@ -45,4 +45,4 @@ pair_now p = (p.0.now, p.1.now)
 
 -- an entry is data of this user, room and type
 abbrev pub is_data_of : List ℕ → Option RoomId → List ℕ → Entry → Bool
-is_data_of user room kind (entry.Data own_user own_room own_kind content at) = bytes_eq own_user user && same_room own_room room && bytes_eq own_kind kind
+is_data_of user room kind (entry.Data own_user own_room own_kind content at) = is_of user room (entry.Data own_user own_room own_kind content at) && bytes_eq own_kind kind

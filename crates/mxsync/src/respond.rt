@@ -15,8 +15,8 @@ use mx_ids::{Memory, Users};
 use mx_json::{Json, Members};
 use std::alloc::Global;
 
-/// Answers a call on the stored entries, and stores the account data of a put behind them. `Memory` leaves the entries as
-/// they were.
+/// Answers a call on the stored entries, and stores the account data of a put behind them. `Memory` leaves the
+/// entries as they were.
 pub fn respond(
     alloc: Global,
     users: &Users,
