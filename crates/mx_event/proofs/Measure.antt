@@ -1,5 +1,5 @@
 -- The lengths of members and of ids.
-use Rattle.std.proofs.Common.{◌≡◌, ℕ, zero, suc, ◌+◌, ◌-◌, ◌*◌, ◌/◌, ◌%◌, ◌^◌, ◌<◌, ◌≤◌, min, length, List, [], ◌∷◌, ◌++◌, decimal, refl, sym, ap, ◌∙◌, arith, length-append, true, pos, codes, option_map, ne_eqb, ◌≢◌}
+use Rattle.std.proofs.Common.{◌≡◌, ℕ, zero, suc, ◌+◌, ◌-◌, ◌*◌, ◌/◌, ◌%◌, ◌^◌, ◌<◌, ◌≤◌, min, length, List, [], ◌∷◌, ◌++◌, decimal, sym, ap, ◌∙◌, arith, length-append, true, pos, codes, option_map, ne_eqb, ◌≢◌}
 use Rattle.std.proofs.lemmas.Bool.{cases_lt, le-ltb}
 use Rattle.std.proofs.lemmas.List.{length_push}
 use mathlib.Core.Logic.{⊎_elim}

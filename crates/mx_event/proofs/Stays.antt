@@ -1,5 +1,5 @@
 -- The laws of redaction, and what a longer list keeps.
-use Rattle.std.proofs.Common.{◌≡◌, ℕ, ◌<◌, ◌-◌, ◌^◌, cond, List, [], ◌∷◌, ◌++◌, Bool, true, false, ◌&&◌, leb, ltb, Option, Some, None, option_map, codes, refl, sym, ap, subst, ◌∙◌, append-nil}
+use Rattle.std.proofs.Common.{◌≡◌, ℕ, ◌<◌, ◌-◌, ◌^◌, cond, List, [], ◌∷◌, ◌++◌, true, false, ◌&&◌, leb, ltb, Option, Some, None, option_map, codes, refl, sym, ap, ◌∙◌, append-nil}
 use Rattle.std.proofs.lemmas.Bool.{cases_Bool, cond-true, cond-false, and_parts, lt-leb}
 use Rattle.std.proofs.lemmas.List.Elements.{filter-append}
 use Rattle.std.proofs.lemmas.Slice.Eq.{bytes_eq-Decides}
@@ -11,7 +11,7 @@ use mathlib.Core.Logic.{⊎_elim}
 use Rattle.mx_ids.specs.Ids.{event_id_at}
 use Rattle.mx_ids.specs.User.{server_of}
 use Rattle.mx_ids.specs.declared.event_id.EventId.{EventId}
-use Rattle.mx_json.specs.Fields.{field, members_of, text_of, text_at}
+use Rattle.mx_json.specs.Fields.{members_of, text_of, text_at}
 use Rattle.mx_json.specs.Keys.{value_at}
 use Rattle.mx_json.specs.declared.value.Json as json
 use Rattle.mx_json.specs.declared.value.Json.{Json}
@@ -19,7 +19,7 @@ use Rattle.mx_window.specs.Windows.{between}
 use Rattle.mx_event.specs.Kinds.{create_type, redaction_type, is_redaction}
 use Rattle.mx_event.specs.Laws.{RedactsOnce, NamesStay, ShownStays}
 use Rattle.mx_event.specs.Redaction.{kept_member, redacted_content, redacted}
-use Rattle.mx_event.specs.Shown.{position_of, named_id, is_at, names, first_of, redactions, shown}
+use Rattle.mx_event.specs.Shown.{position_of, is_at, names, first_of, redactions, shown}
 use Rattle.mx_event.specs.declared.event.Event.{Event}
 use Rattle.mx_event.proofs.Kept.{kept_again, kept_key, member_again, redacts_kept, value_kept}
 use Rattle.mx_event.proofs.Texts.{members_of-Object}

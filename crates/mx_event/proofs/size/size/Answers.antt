@@ -1,6 +1,5 @@
-use Rattle.std.proofs.Common.{◌≡◌, ◌-◌, ◌^◌, min, length, refl, sym, ap, ◌∙◌, arith, pos}
+use Rattle.std.proofs.Common.{◌-◌, ◌^◌, min, refl, ap, ◌∙◌, pos}
 use Rattle.mx_json.specs.Numbers.{largest}
-use Rattle.mx_json.specs.Texts.{json_text}
 use Rattle.mx_json.specs.declared.value.Json as json
 use Rattle.mx_event.specs.Forms.{with_long_ids}
 use Rattle.mx_event.proofs.Measure.{one_part, whole_len, number_len_of, text_len}
