@@ -1,4 +1,6 @@
 //! Requests as a reader gives them, and what ends a connection.
+ghost use Rattle.std.specs.Prelude.{◌<◌};
+
 use crate::{Call, HttpFault, reader};
 use mx_outside::MemSource;
 use std::alloc::{AllocError, Global};
@@ -18,7 +20,9 @@ fn first(alloc: Global, bytes: &[u8]) -> Result<Option<Call>, HttpFault> {
 
 /// What the first request is, or why it is none, where the source gives so many bytes at a time and its call of that
 /// number fails.
-fn first_of_failing(alloc: Global, piece: usize, call: u64) -> Result<Option<Call>, HttpFault> {
+fn first_of_failing(alloc: Global, piece: usize, call: u64) -> Result<Option<Call>, HttpFault>
+    requires { 0 < piece }
+{
     const POST: &[u8] = b"POST / HTTP/1.1\r\nContent-Length: 2\r\n\r\nab";
     let (Ok(bytes), Ok(failing)) = (
         Vec::from_slice(alloc, POST),
@@ -135,17 +139,18 @@ fn what_is_no_request_has_its_cause(rt: HostRuntime) -> Result<(), Fail> {
 
 #[test]
 fn a_failed_read_is_the_answer(rt: HostRuntime) {
-    // at the first byte, in the head, between head and body, and in the body
-    for (piece, call) in [(20, 0), (20, 1), (38, 1), (39, 1)] {
-        assert!(rt;
-            matches!(
-                first_of_failing(rt.alloc(), piece, call),
-                Err(HttpFault::ReadFault)
-            )
-        );
-    }
+    let alloc = rt.alloc();
+    let at_once = first_of_failing(alloc, 20, 0);
+    assert!(rt; matches!(at_once, Err(HttpFault::ReadFault)));
+    let in_the_head = first_of_failing(alloc, 20, 1);
+    assert!(rt; matches!(in_the_head, Err(HttpFault::ReadFault)));
+    let before_the_body = first_of_failing(alloc, 38, 1);
+    assert!(rt; matches!(before_the_body, Err(HttpFault::ReadFault)));
+    let in_the_body = first_of_failing(alloc, 39, 1);
+    assert!(rt; matches!(in_the_body, Err(HttpFault::ReadFault)));
     // the call that would find the end isn't made
-    assert!(rt; matches!(first_of_failing(rt.alloc(), 40, 1), Ok(Some(_))));
+    let whole = first_of_failing(alloc, 40, 1);
+    assert!(rt; matches!(whole, Ok(Some(_))));
 }
 
 #[test]
