@@ -1,5 +1,5 @@
 -- Objects whose members are set one after the other.
-use Rattle.std.proofs.Common.{◌≡◌, ℕ, List, [], ◌∷◌, true, codes, cond, refl, sym, ap, ◌∙◌}
+use Rattle.std.proofs.Common.{◌≡◌, ℕ, List, [], true, codes, sym, ap, ◌∙◌}
 use Rattle.std.proofs.lemmas.Bool.{cond-true}
 use Rattle.mx_json.specs.Keys.{with_member}
 use Rattle.mx_json.specs.declared.members.Member.{Member}

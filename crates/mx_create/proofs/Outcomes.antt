@@ -1,5 +1,5 @@
 -- What a body gives, cause by cause.
-use Rattle.std.proofs.Common.{◌≡◌, ℕ, ◌<◌, ◌≤◌, List, length, Bool, true, false, Option, Some, None, Result, Ok, Err, codes, refl, sym, ap, ◌∙◌}
+use Rattle.std.proofs.Common.{◌≡◌, ◌<◌, ◌≤◌, List, length, Bool, true, false, Option, Some, None, Ok, Err, codes, refl, sym, ap, ◌∙◌}
 use Rattle.std.proofs.lemmas.Bool.{cond-true, cond-false, lt-ltb, le-ltb}
 use Rattle.mx_event.specs.declared.draft.Draft.{Draft}
 use Rattle.mx_ids.specs.declared.users.Users.{Users}
@@ -7,7 +7,6 @@ use Rattle.mx_json.specs.Fields.{field}
 use Rattle.mx_json.specs.declared.value.Json.{Json}
 use Rattle.mx_create.specs.Blocks.{Creating, are_known, block_of, drafts_of, is_eleven, with_preset}
 use Rattle.mx_create.specs.Presets.{preset_of}
-use Rattle.mx_create.specs.declared.fault.CreateFault.{CreateFault}
 use Rattle.mx_create.specs.declared.fault.CreateFault.TheVariants as faults
 use Rattle.mx_create.specs.declared.preset.Preset.{Preset}
 

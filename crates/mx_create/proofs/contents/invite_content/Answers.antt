@@ -1,4 +1,4 @@
-use Rattle.std.proofs.Common.{true, ◌≡◌, sym, ◌∙◌}
+use Rattle.std.proofs.Common.{sym, ◌∙◌}
 use Rattle.mx_create.proofs.Objects.{direct}
 use Rattle.mx_create.proofs.contents.invite_content.Goals as goal
 

@@ -1,7 +1,5 @@
-use Rattle.std.proofs.Common.{◌≡◌, ◌<◌, ◌≤◌, length, true, false, Some, None, codes, inr, sym, subst, ◌∙◌, arith}
-use Rattle.mx_json.specs.Fields.{field}
-use Rattle.mx_create.specs.Blocks.{Creating, are_known, drafts_of, is_eleven}
-use Rattle.mx_create.specs.Presets.{preset_of}
+use Rattle.std.proofs.Common.{◌<◌, ◌≤◌, inr, sym, subst, ◌∙◌}
+use Rattle.mx_create.specs.Blocks.{Creating}
 use Rattle.mx_create.proofs.Outcomes.{found, no_preset, no_user, no_version, too_many}
 use Rattle.mx_create.proofs.creation.block.Goals as goal
 
