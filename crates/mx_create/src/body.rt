@@ -51,7 +51,7 @@ fn is_state_entry(entry: &Json) -> bool
 {
     entry.as_object().is_some()
         && (entry.text_at("type").is_some()
-            && (has_object(entry, "content") && has_no_other_key(entry)))
+            && (has_object(entry, "content") && has_text_key(entry)))
 }
 
 /// Whether an object stands at the key.
@@ -65,7 +65,7 @@ fn has_object(entry: &Json, key: &str) -> bool
 }
 
 /// Whether the state key is a text, if it is there.
-fn has_no_other_key(entry: &Json) -> bool
+fn has_text_key(entry: &Json) -> bool
     ensures { result ≡ is_none_or_text (field (codes "state_key") entry.now) }
 {
     match entry.field("state_key") {

@@ -285,7 +285,7 @@ fn push_invitation(
     Ok(())
 }
 
-/// Puts a state event without a state key at the end that has a text at its one key.
+/// Puts a state event with an empty state key at the end whose content has a text at its one key.
 fn push_text(
     alloc: Global,
     all: &mut Vec<Draft>,
