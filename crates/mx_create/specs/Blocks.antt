@@ -12,7 +12,7 @@ use Rattle.mx_event.specs.State.{membership_in}
 use Rattle.mx_event.specs.declared.draft.Draft.{Draft}
 use Rattle.mx_create.specs.Bodies.{listed, invited}
 use Rattle.mx_create.specs.Contents.{single, create_content, membership_content, power_content, invite_content}
-use Rattle.mx_create.specs.Presets.{preset_of, join_rule_of, guest_access_of}
+use Rattle.mx_create.specs.Presets.{preset_of, join_rule_of, history_visibility_of, guest_access_of}
 use Rattle.mx_create.specs.declared.fault.CreateFault.{CreateFault}
 use Rattle.mx_create.specs.declared.fault.CreateFault.TheVariants as faults
 use Rattle.mx_create.specs.declared.preset.Preset.{Preset}
@@ -48,16 +48,27 @@ named by kind key ask = option_to_list (option_map (λ text. draft by kind [] (s
 abbrev pub invitation : Creating → Json → List ℕ → Draft
 invitation by ask user = draft by member_type user (invite_content ask)
 
--- the events in their order
-abbrev pub drafts_of : Creating → Preset → Json → List Draft
-drafts_of by preset ask =
+-- the events that the preset alone gives
+unfoldable pub rules : Creating → Preset → List Draft
+rules by preset =
+    draft by join_rules_type [] (single (codes "join_rule") (json.Text (join_rule_of preset)))
+    ∷ draft by visibility_type [] (single (codes "history_visibility") (json.Text (history_visibility_of preset)))
+    ∷ draft by (codes "m.room.guest_access") [] (single (codes "guest_access") (json.Text (guest_access_of preset)))
+    ∷ []
+
+-- the events with which each room begins
+unfoldable pub first_drafts : Creating → Preset → Json → List Draft
+first_drafts by preset ask =
     draft by create_type [] (create_content ask)
     ∷ draft by member_type by.creator (membership_content (codes "join"))
     ∷ draft by power_type [] (power_content preset by.creator ask)
-    ∷ draft by join_rules_type [] (single (codes "join_rule") (json.Text (join_rule_of preset)))
-    ∷ draft by visibility_type [] (single (codes "history_visibility") (json.Text (codes "shared")))
-    ∷ draft by (codes "m.room.guest_access") [] (single (codes "guest_access") (json.Text (guest_access_of preset)))
-    ∷ (map (initial by) (listed (codes "initial_state") ask)
+    ∷ rules by preset
+
+-- the events in their order
+unfoldable pub drafts_of : Creating → Preset → Json → List Draft
+drafts_of by preset ask =
+    first_drafts by preset ask
+    ++ (map (initial by) (listed (codes "initial_state") ask)
     ++ (named by (codes "m.room.name") (codes "name") ask
     ++ (named by (codes "m.room.topic") (codes "topic") ask
     ++ map (invitation by ask) (invited ask))))
@@ -79,7 +90,7 @@ abbrev pub invites_known : Users → Json → Bool
 invites_known users j = not (invites j) || is_known users (text_or_empty (text_at (codes "state_key") j))
 
 -- all who are invited are known
-abbrev pub are_known : Users → Json → Bool
+unfoldable pub are_known : Users → Json → Bool
 are_known users ask = list_all (is_known users) (invited ask) && list_all (invites_known users) (listed (codes "initial_state") ask)
 
 abbrev pub within_block : List Draft → Result (List Draft) CreateFault
@@ -90,5 +101,5 @@ with_preset by users ask None = Err faults.Preset
 with_preset by users ask (Some preset) = if are_known users ask then within_block (drafts_of by preset ask) else Err faults.NoUser
 
 -- the block that a body asks for, or the first fault
-abbrev pub block_of : Creating → Users → Json → Result (List Draft) CreateFault
+unfoldable pub block_of : Creating → Users → Json → Result (List Draft) CreateFault
 block_of by users ask = if is_eleven (field (codes "room_version") ask) then with_preset by users ask (preset_of ask) else Err faults.Version

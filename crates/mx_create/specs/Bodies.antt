@@ -4,9 +4,12 @@ use Rattle.std.specs.List.{list_all, filter_map}
 use Rattle.mx_json.specs.Fields.{field, is_object, list_of, text_at, text_of}
 use Rattle.mx_json.specs.declared.value.Json.{Json}
 
+abbrev pub is_text_value : Json → Bool
+is_text_value j = is_some (text_of j)
+
 abbrev pub is_none_or_text : Option Json → Bool
 is_none_or_text None = true
-is_none_or_text (Some j) = is_some (text_of j)
+is_none_or_text (Some j) = is_text_value j
 
 abbrev pub is_some_object : Option Json → Bool
 is_some_object None = false
@@ -36,7 +39,7 @@ abbrev pub is_create_body : Json → Bool
 is_create_body ask =
     is_object ask
     && (is_none_or_list_of is_state_entry (field (codes "initial_state") ask)
-    && is_none_or_list_of (λ j. is_some (text_of j)) (field (codes "invite") ask))
+    && is_none_or_list_of is_text_value (field (codes "invite") ask))
 
 -- the items of the list at a key; none where there is no list
 abbrev pub listed : List ℕ → Json → List Json

@@ -27,7 +27,7 @@ abbrev pub with_all : List (Member Json) → List (Member Json) → List (Member
 with_all ms others = fold with_one ms others
 
 -- `creation_content`, if it is an object, with the room's version
-abbrev pub create_content : Json → Json
+unfoldable pub create_content : Json → Json
 create_content ask = json.Object (with_member (codes "room_version") (json.Text (codes "11")) (members_or_none (field (codes "creation_content") ask)))
 
 abbrev pub membership_content : List ℕ → Json
@@ -46,7 +46,7 @@ first_levels preset creator ask = fold with_user (at_hundred creator ∷ []) (if
 abbrev pub int : ℕ → Json
 int n = json.Int (pos n)
 
-abbrev pub default_powers : Preset → List ℕ → Json → List (Member Json)
+unfoldable pub default_powers : Preset → List ℕ → Json → List (Member Json)
 default_powers preset creator ask =
     member (codes "ban") (int 50)
     ∷ member (codes "events") (json.Object [])
@@ -61,7 +61,7 @@ default_powers preset creator ask =
     ∷ []
 
 -- the power levels, with each key of `power_level_content_override` in place of its default
-abbrev pub power_content : Preset → List ℕ → Json → Json
+unfoldable pub power_content : Preset → List ℕ → Json → Json
 power_content preset creator ask = json.Object (with_all (default_powers preset creator ask) (members_or_none (field (codes "power_level_content_override") ask)))
 
 -- `true` stands at the key
@@ -69,7 +69,7 @@ abbrev pub is_set : List ℕ → Json → Bool
 is_set key j = unwrap_or (option_and_then bool_of (field key j)) false
 
 -- an invitation, direct where the body says so
-abbrev pub invite_content : Json → Json
+unfoldable pub invite_content : Json → Json
 invite_content ask =
     if is_set (codes "is_direct") ask then json.Object (member (codes "is_direct") (json.Bool true) ∷ member (codes "membership") (json.Text (codes "invite")) ∷ [])
     else membership_content (codes "invite")

@@ -2,3 +2,4 @@ pub mod Presets
 pub mod Bodies
 pub mod Contents
 pub mod Blocks
+pub mod Strangers

@@ -30,6 +30,11 @@ join_rule_of preset.PrivateChat = codes "invite"
 join_rule_of preset.TrustedPrivateChat = codes "invite"
 join_rule_of preset.PublicChat = codes "public"
 
+abbrev pub history_visibility_of : Preset → List ℕ
+history_visibility_of preset.PrivateChat = codes "shared"
+history_visibility_of preset.TrustedPrivateChat = codes "shared"
+history_visibility_of preset.PublicChat = codes "shared"
+
 abbrev pub guest_access_of : Preset → List ℕ
 guest_access_of preset.PrivateChat = codes "can_join"
 guest_access_of preset.TrustedPrivateChat = codes "can_join"

@@ -1,0 +1,5 @@
+pub mod Drafts
+pub mod Listed
+pub mod Objects
+pub mod Outcomes
+pub mod Sets
