@@ -1,43 +1,19 @@
 -- The entries of maps of levels: their values, and the value at their keys.
-use Rattle.std.proofs.Common.{◌≡◌, ℕ, ℤ, Bool, true, false, cond, ◌&&◌, ◌||◌, List, [], ◌∷◌, ◌++◌, map, Option, Some, None, option_map, option_and_then, unwrap_or, refl, sym, ap, ap₂, subst, ◌∙◌, Ordering, Less, Equal, Greater, nat_cmp, is_eq}
-use Rattle.std.proofs.lemmas.Bool.{and_parts, cond-true, cond-false}
-use Rattle.std.proofs.lemmas.Cmp.{nat_list_cmp_total}
+use Rattle.std.proofs.Common.{◌≡◌, ℕ, ℤ, Bool, true, false, ◌||◌, List, [], ◌∷◌, ◌++◌, map, Option, Some, None, option_and_then, refl, sym, ap, ap₂, subst, ◌∙◌, Less, nat_cmp, is_eq}
+use Rattle.std.proofs.lemmas.Bool.{cond-true, cond-false}
 use Rattle.std.proofs.lemmas.List.Folds.{list_any-append, list_all-map}
 use Rattle.std.proofs.lemmas.Map.Text.{is_eq-slice_cmp}
 use Rattle.std.proofs.lemmas.Slice.Eq.{bytes_eq-Decides}
 use Rattle.std.specs.Cmp.Lexicographic.{slice_cmp}
 use Rattle.std.specs.List.{AllByRecursion, list_all, list_any}
-use Rattle.std.specs.Ordering.{is_lt}
 use Rattle.std.specs.Str.{bytes_eq}
 use Rattle.mx_ids.specs.User.{is_user_id_text}
-use Rattle.mx_json.specs.Fields.{int_of, members_of}
+use Rattle.mx_json.specs.Fields.{int_of}
 use Rattle.mx_json.specs.Keys.{are_ordered, keys_of, value_at}
+use Rattle.mx_json.proofs.Order.{below_rest, ordered_rest}
 use Rattle.mx_json.specs.declared.members.Member.{Member}
 use Rattle.mx_json.specs.declared.value.Json.{Json}
 use Rattle.mx_auth.specs.Entries.{Test, any_new, any_old, int_in, members_in}
-
--- ---- keys in order
-
-less_from : (o : Ordering) → is_lt o ≡ true → o ≡ Less
-less_from Less h = refl
-less_from Equal h = cc
-less_from Greater h = cc
-
-below_through : (k l : List ℕ) (ks : List (List ℕ)) → slice_cmp nat_cmp k l ≡ Less → AllByRecursion (λ m. slice_cmp nat_cmp l m ≡ Less) ks → AllByRecursion (λ m. slice_cmp nat_cmp k m ≡ Less) ks
-below_through k l [] less all = tt
-below_through k l (m ∷ ks) less all = (nat_list_cmp_total.trans k l m less all.0, below_through k l ks less all.1)
-
--- the first of keys in order is below each other
-below_rest : (k : List ℕ) (ks : List (List ℕ)) → are_ordered (k ∷ ks) ≡ true → AllByRecursion (λ m. slice_cmp nat_cmp k m ≡ Less) ks
-below_rest k [] h = tt
-below_rest k (l ∷ ks) h =
-    let p = and_parts (is_lt (slice_cmp nat_cmp k l)) _ h in
-    let less = less_from (slice_cmp nat_cmp k l) p.0 in
-    (less, below_through k l ks less (below_rest l ks p.1))
-
-ordered_rest : (k : List ℕ) (ks : List (List ℕ)) → are_ordered (k ∷ ks) ≡ true → are_ordered ks ≡ true
-ordered_rest k [] h = refl
-ordered_rest k (l ∷ ks) h = (and_parts (is_lt (slice_cmp nat_cmp k l)) _ h).1
 
 -- ---- the value at a member's key is the member's
 

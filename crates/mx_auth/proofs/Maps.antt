@@ -1,6 +1,5 @@
 -- What the maps of memberships and of positions hold once one entry is set.
-use Rattle.std.proofs.Common.{◌≡◌, ℕ, Bool, true, false, cond, ◌&&◌, ◌||◌, ◌==◌, List, [], Option, Some, None, is_some, IsSome, OnErr, Result, Ok, Err, String, BTreeMap, BTreeSet, refl, sym, ap, ap₂, subst, ◌∙◌, nat_cmp, is_eq}
-use Rattle.std.proofs.lemmas.Bool.{cases_Bool, cond-true, cond-false}
+use Rattle.std.proofs.Common.{◌≡◌, ℕ, Bool, true, false, cond, ◌&&◌, ◌||◌, ◌==◌, List, Option, Some, None, is_some, IsSome, OnErr, Result, Ok, Err, String, BTreeSet, refl, sym, ap, subst, ◌∙◌, nat_cmp}
 use Rattle.std.proofs.lemmas.Map.Text.{is_eq-slice_cmp, btree_map_updates_text}
 use Rattle.std.proofs.lemmas.Slice.Eq.{bytes_eq-Decides}
 use Rattle.std.specs.BTreeMap as tree
@@ -12,7 +11,6 @@ use Rattle.std.specs.List.{list_any}
 use Rattle.std.specs.Option.{option_flatten, option_map_or}
 use Rattle.std.specs.Str.{bytes_eq}
 use Rattle.std.specs.String.{string_bytes, string_cmp}
-use mathlib.Core.Logic.{⊎_elim}
 use Rattle.mx_auth.specs.Kept.{Memberships, Positions, membership_at, sent_at}
 
 -- ---- memberships

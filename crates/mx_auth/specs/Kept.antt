@@ -1,5 +1,5 @@
 -- What is kept of the events of a room, and what an event changes of it.
-use Rattle.std.specs.Prelude.{◌≡◌, ℕ, Bool, false, ◌==◌, ◌&&◌, is_some, List, [], ◌∷◌, String, Option, Some, None, IsSome, if◌then◌else◌, codes}
+use Rattle.std.specs.Prelude.{◌≡◌, ℕ, Bool, false, ◌==◌, ◌&&◌, is_some, List, [], ◌∷◌, String, Option, Some, IsSome, if◌then◌else◌, codes}
 use Rattle.std.specs.BTreeMap as tree
 use Rattle.std.specs.BTreeMap.{BTreeMap, get_by_text}
 use Rattle.std.specs.BTreeSet.{BTreeSet, contains}

@@ -181,8 +181,7 @@ fn passes(map: LevelMap, sender: &Sender, key: &str, old: Option<i64>, new: Opti
     ensures { result ≡ passes map sender.now.level sender.now.id.now key.now old new }
 {
     match map {
-        LevelMap::Events => passes_level(sender.level, old, new),
-        LevelMap::Notifications => passes_level(sender.level, old, new),
+        LevelMap::Events | LevelMap::Notifications => passes_level(sender.level, old, new),
         LevelMap::Users => passes_user_level(sender.level, key == sender.id.as_str(), old, new),
     }
 }

@@ -44,7 +44,7 @@ pub(crate) struct Kept {
     pub(crate) join_rule: Option<Text>,
     /// The content of the standing power levels.
     pub(crate) powers: Option<Json>,
-    /// The standing membership under each state key. A key without one stands here only as room that was made.
+    /// The standing membership under each state key. A key that has none is as one that isn't here.
     pub(crate) memberships: BTreeMap<String, Option<Text>>,
     /// The positions of the events that each user sent.
     pub(crate) sent: BTreeMap<UserId, BTreeSet<u64>>,

@@ -1,6 +1,6 @@
 //! What kind of event an event is, and whom it is about.
 ghost use Rattle.std.specs.Prelude.{◌≡◌, option_map};
-ghost use Rattle.mx_event.specs.Kinds.{has_key, is_of, is_redaction, is_text};
+ghost use Rattle.mx_event.specs.Kinds.{has_key, is_of, is_text};
 ghost use Rattle.mx_event.specs.Denied.{gives, is_own, target};
 
 use mx_event::Event;
@@ -13,8 +13,6 @@ pub(crate) const JOIN_RULES: &str = "m.room.join_rules";
 pub(crate) const MEMBER: &str = "m.room.member";
 
 pub(crate) const POWER_LEVELS: &str = "m.room.power_levels";
-
-const REDACTION: &str = "m.room.redaction";
 
 /// Whether a text is there, and is this one.
 pub(crate) fn is_text(text: &str, found: Option<&Text>) -> bool
@@ -38,12 +36,6 @@ pub(crate) fn has_key(kind: &str, key: &str, event: &Event) -> bool
     ensures { result ≡ has_key kind.now key.now event.now }
 {
     is_of(kind, event) && is_text(key, event.state_key.as_ref())
-}
-
-pub(crate) fn is_redaction(event: &Event) -> bool
-    ensures { result ≡ is_redaction event.now }
-{
-    is_of(REDACTION, event) && event.state_key.is_none()
 }
 
 /// Whom a member event is about: its state key.

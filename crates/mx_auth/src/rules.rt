@@ -5,7 +5,7 @@ ghost use Rattle.mx_event.specs.Shown.{named_id};
 ghost use Rattle.mx_event.specs.Denied.{breaks_create, breaks_level, breaks_power_change, breaks_power_form, breaks_redaction, breaks_sender, breaks_user_key, is_of_a_user, names_own};
 
 use crate::changes::{Sender, is_well_formed, passes_own_level};
-use crate::kinds::{CREATE, POWER_LEVELS, is_of, is_own, is_redaction};
+use crate::kinds::{CREATE, POWER_LEVELS, is_of, is_own};
 use crate::levels::{level, needed_level, redact_level};
 use crate::membership_rules::{is_joined, reaches};
 use crate::state::AuthState;
@@ -83,7 +83,7 @@ pub(crate) fn breaks_power_change(event: &Event, state: &AuthState) -> bool
 fn named_id(event: &Event) -> Option<EventId>
     ensures { result ≡ named_id event.now }
 {
-    if is_redaction(event) {
+    if event.is_redaction() {
         let named = event.content.text_at("redacts")?;
         read_event_id(named.as_str(), event.sender.server())
     } else {
@@ -106,5 +106,5 @@ fn names_own(event: &Event, state: &AuthState) -> bool
 pub(crate) fn breaks_redaction(event: &Event, state: &AuthState) -> bool
     ensures { result ≡ breaks_redaction event.now state.now }
 {
-    is_redaction(event) && !names_own(event, state) && !reaches(redact_level(state), event, state)
+    event.is_redaction() && !names_own(event, state) && !reaches(redact_level(state), event, state)
 }
