@@ -1,1 +1,6 @@
 pub mod Lanes
+pub mod Lines
+pub mod Goes
+pub mod Allowed
+pub mod Hands
+pub mod Openings

@@ -2,7 +2,7 @@
 use Rattle.std.specs.Prelude.{◌≡◌, ℕ, ◌≤◌, List, [], ◌∷◌, ◌++◌, Result, Ok, Err, length}
 use Rattle.mx_core.specs.declared.history.Stored.{Stored}
 use Rattle.mx_core.specs.Front.{IsFront}
-use Rattle.mx_core.specs.History.{own}
+use Rattle.mx_core.specs.History.{own, Begins}
 use Rattle.mx_front.specs.declared.view.View.{View}
 use Rattle.mx_writers.specs.declared.answers.Written.{Written}
 use Rattle.mx_writers.specs.declared.answers.Refused.{Refused}
@@ -36,3 +36,18 @@ WritesBy place (Decision.Keeps n) k stop mine (Ok w) v = HasKept n mine w v
 WritesBy place (Decision.Refuses e) k stop mine (Err (Fault f m)) v = (f ≡ e) × (m ≡ length mine) × (v.own ≡ mine)
 WritesBy place d k stop mine (Err Memory) v = v.own ≡ mine
 WritesBy place d k stop mine answer v = ⊥
+
+-- a write in the turn of the writer k, with what its pass has seen before and after: `mine` are the writer's stores when its turn began, and its pen knows v when the turn ends
+pub record WritesSeen {I D E : Type 0} (place : Placing I) (decides : ℕ → List (Stored I) → D → Decision I E) (k stop : ℕ) (draft : D) (answer : Result Written (Refused E)) (old new : View I) : Type 0 where
+  pub mine : List (Stored I)
+  pub pen : View I
+  pub wrote : WritesBy place (decides k mine draft) k stop mine answer pen
+  -- what the pass had seen of the writer's stores begins them, and it has then seen just the pen's own list
+  pub before : Begins (own old.seen k) mine
+  pub after : own new.seen k ≡ pen.own
+  -- it has then seen all that it had seen, and all that the pen has, so a store and the list that its front is of
+  pub seen : Begins old.seen new.seen
+  pub told : Begins pen.seen new.seen
+  pub kept : old.read ≤ new.read
+  pub read : pen.read ≤ new.read
+  pub looks : new.looks ≡ old.looks

@@ -2,15 +2,22 @@
 #![tactic(auto)]
 
 mod answers;
+mod board;
 mod folds;
 mod gate;
 mod lane;
+mod plays;
+mod seen;
 mod start;
+mod turned;
+mod turns;
+mod view;
 mod writing;
 
 pub use answers::{Refused, Written};
 pub use folds::{Folds, Made, Unmade};
 pub use gate::{Gate, Open};
 pub use lane::Shard;
-pub use start::shard;
+pub use seen::Writers;
+pub use start::{shard, writers};
 pub use writing::write_in;

@@ -2,16 +2,16 @@
 
 ghost use Rattle.std.specs.Prelude.{◌≡◌, ◌+◌, ◌^◌, ◌≤◌, length};
 ghost use Rattle.mx_core.specs.History.{placed_from, Begins};
-ghost use Rattle.mx_front.specs.Shown.{place_of, stop_of, known, place_of_pen};
+ghost use Rattle.mx_front.specs.Shown.{place_of, stop_of, known, place_of_pen, reads, place_of_pass};
 ghost use Rattle.mx_writers.specs.Decision.{Stores, CanBeStored};
-ghost use Rattle.mx_writers.specs.Writes.{WritesBy};
+ghost use Rattle.mx_writers.specs.Writes.{WritesBy, WritesSeen};
 
 use crate::answers::{Refused, Written};
 use crate::folds::{Folds, Made, Unmade};
 use crate::gate::Gate;
 use crate::lane::Shard;
 use mx_core::{Placed, Prepared};
-use mx_front::{Full, Stream};
+use mx_front::{Full, Pass, Stream};
 use mx_ids::{Copied, Seq};
 use std::alloc::Global;
 use std::sync::Wait;
@@ -99,4 +99,24 @@ fn placed_at<I: Placed>(items: Seq<I>, first: u64) -> Seq<I>
         at += 1;
     }
     Seq::from_vec(items)
+}
+
+/// A write in a shard whose turn it is, with one note of the pass before it and one after it.
+pub(crate) fn write_noted<F: Folds, G: Gate, R: Wait>(
+    rt: &R,
+    alloc: Global,
+    stream: &Stream<F::Item>,
+    shard: &mut Shard<F>,
+    draft: F::Draft,
+    gate: &G,
+    pass: &mut Pass<F::Item>,
+) -> Result<Written, Refused<F::Fault>>
+    requires stream { (place_of_pen shard.old.pen ≡ place_of stream.now) × (place_of_pass pass.old ≡ place_of stream.now) }
+    ensures stream { (place_of_pen shard.new.pen ≡ place_of_pen shard.old.pen) × (shard.new.writer ≡ shard.old.writer) × (place_of_pass pass.new ≡ place_of_pass pass.old) }
+    ensures wrote { WritesSeen F.Item.placed F.decides shard.old.writer (stop_of stream.now) draft result (reads pass.old) (reads pass.new) }
+{
+    stream.note(&mut shard.pen, pass).unwrap();
+    let answer = write_in(rt, alloc, stream, shard, draft, gate);
+    stream.note(&mut shard.pen, pass).unwrap();
+    answer
 }
