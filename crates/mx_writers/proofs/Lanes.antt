@@ -1,5 +1,5 @@
 -- The stores of one writer.
-use Rattle.std.proofs.Common.{◌≡◌, ℕ, true, eqb, List, [], ◌∷◌, ◌++◌, ◌&&◌, Result, Ok, Err, refl, sym, ap, ◌∙◌, subst, ap₂, inl, inr}
+use Rattle.std.proofs.Common.{◌≡◌, ℕ, true, eqb, List, [], ◌∷◌, ◌++◌, ◌&&◌, Option, Result, Ok, Err, refl, sym, ap, ◌∙◌, subst, ap₂, inl, inr}
 use Rattle.std.proofs.lemmas.Bool.{cases_Bool, cases_eq, and_parts, and_from, ne_eqb, eq-eqb}
 use Rattle.mx_core.specs.declared.history.Stored.{Stored}
 use Rattle.mx_core.specs.History.{own, Law, keeps_law}
@@ -41,13 +41,13 @@ module _ {I : Type 0} where
   lane law h mine j k same is lawful = subst (IsLane law k) (ap (own h) (sym same) ∙ is) (record { writer = own_twice h k; lawful = own_lawful law [] h k lawful })
 
 -- items that were prepared are decided, and so can be stored
-decided_items : {I E : Type 0} (d : Decision I E) (p : Prepared I) (pending : List I) → Prepares d (Ok (made.Items p)) pending → d ≡ Stores p.items
+decided_items : {I E : Type 0} (d : Decision I E) (p : Prepared I) (pending : Option (List I)) → Prepares d (Ok (made.Items p)) pending → d ≡ Stores p.items
 decided_items (Stores xs) p pending e = ap Stores (sym e.0)
 decided_items (Keeps n) p pending e = absurd e
 decided_items (Refuses f) p pending e = absurd e
 
 pub storable : {I D E : Type 0} (law : Law I) (place : Placing I) (decides : ℕ → List (Stored I) → D → Decision I E) (k w : ℕ) (mine folded : List (Stored I)) (draft : D)
-    (answer : Result (Made I) (Unmade E)) (p : Prepared I) (pending : List I)
+    (answer : Result (Made I) (Unmade E)) (p : Prepared I) (pending : Option (List I))
     → AreLawful law place decides → IsLane law k mine → w ≡ k → folded ≡ mine → Prepares (decides w folded draft) answer pending → answer ≡ Ok (made.Items p) → CanBeStored law place k mine p.items
 storable law place decides k w mine folded draft answer p pending are lane writer fold e is =
     let decided = decided_items (decides w folded draft) p pending (subst (λ a. Prepares (decides w folded draft) a pending) is e) in

@@ -4,3 +4,4 @@ pub mod Goes
 pub mod Allowed
 pub mod Hands
 pub mod Openings
+pub mod Unplaced

@@ -1,5 +1,5 @@
 -- What a writer decides on a draft by its own stores, and what a block must be to follow these.
-use Rattle.std.specs.Prelude.{◌≡◌, ℕ, ◌+◌, ◌^◌, ◌<◌, ◌≤◌, true, List, [], ◌∷◌, ◌++◌, Result, Ok, Err, length}
+use Rattle.std.specs.Prelude.{◌≡◌, ℕ, ◌+◌, ◌^◌, ◌<◌, ◌≤◌, true, List, [], ◌∷◌, ◌++◌, Option, Some, Result, Ok, Err, length}
 use Rattle.mx_core.specs.declared.history.Stored.{Stored}
 use Rattle.mx_core.specs.History.{own, is_stored, Law, keeps_law, placed_from}
 use Rattle.mx_writers.specs.declared.folds.Made.{Made}
@@ -14,8 +14,8 @@ pub data Decision (I E : Type 0) : Type 0 where
   Refuses : E → Decision I E
 
 -- what `prepare` answers, and the pending block then: the decision, or want of memory
-abbrev pub Prepares : {I E : Type 0} → Decision I E → Result (Made I) (Unmade E) → List I → Type 0
-Prepares (Stores xs) (Ok (made.Items p)) pending = (p.items ≡ xs) × (pending ≡ xs)
+abbrev pub Prepares : {I E : Type 0} → Decision I E → Result (Made I) (Unmade E) → Option (List I) → Type 0
+Prepares (Stores xs) (Ok (made.Items p)) pending = (p.items ≡ xs) × (pending ≡ Some xs)
 Prepares (Keeps n) (Ok (made.Kept m)) pending = m ≡ n
 Prepares (Refuses e) (Err (unmade.Fault f)) pending = f ≡ e
 Prepares d (Err unmade.Memory) pending = Unit {0}

@@ -4,3 +4,4 @@ pub mod Shown
 pub mod Locks
 pub mod Tells
 pub mod Start
+pub mod Decided

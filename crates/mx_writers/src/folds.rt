@@ -1,11 +1,11 @@
 //! A writer's value: the fold of its own stores, and what it decides on a draft.
 
-ghost use Rattle.std.specs.Prelude.{◌≡◌, ℕ, List};
+ghost use Rattle.std.specs.Prelude.{◌≡◌, ℕ, List, Option, Some};
 ghost use Rattle.mx_core.specs.declared.history.Stored.{Stored};
 ghost use Rattle.mx_writers.specs.Decision.{Decision, Prepares, MayFollow, AreLawful, with_store};
 
 use mx_core::{Placed, Prepared};
-use mx_ids::Copied;
+use mx_ids::{Copied, Memory};
 use std::alloc::Global;
 
 /// What a draft was made into.
@@ -26,6 +26,17 @@ pub enum Unmade<E> {
     Memory,
 }
 
+impl<E> From<Memory> for Unmade<E> {
+    ghost use Rattle.std.specs.Prelude.{◌≡◌};
+    ghost use Rattle.mx_writers.specs.declared.folds.Unmade.TheVariants as unmade;
+
+    ghost from_gives = { λ _ e. e ≡ unmade.Memory };
+
+    fn from(_refused: Memory) -> Unmade<E> {
+        Unmade::Memory
+    }
+}
+
 /// A writer's value. It is the fold of the stores of its writer, its own list, and decides on drafts by it.
 pub trait Folds: Sized + Drop {
     /// What a stream holds.
@@ -41,8 +52,8 @@ pub trait Folds: Sized + Drop {
     // The own list: the stores that it is the fold of.
     ghost own: { Self → List (Stored Self.Item) };
 
-    // The block that was prepared last, beside the fold.
-    ghost pending: { Self → List Self.Item };
+    // The block that is prepared and not taken in yet, beside the fold.
+    ghost pending: { Self → Option (List Self.Item) };
 
     // What is decided by a writer on its own stores and a draft.
     ghost decides: { ℕ → List (Stored Self.Item) → Self.Draft → Decision Self.Item Self.Fault };
@@ -60,7 +71,7 @@ pub trait Folds: Sized + Drop {
     /// Takes the pending block in as a store from the position `first` on: at least 1 and above each position of the own
     /// list, with the last position below 2^48. Takes no memory.
     fn commit(&mut self, first: u64, prepared: &Prepared<Self::Item>)
-        requires pending { prepared.now.items ≡ pending self.old }
+        requires pending { pending self.old ≡ Some prepared.now.items }
         requires follows { MayFollow (own self.old) first prepared.now.items }
         ensures writer { writer self.new ≡ writer self.old }
         ensures own { own self.new ≡ with_store Self.Item.placed (writer self.old) (own self.old) first prepared.now.items };

@@ -1,6 +1,6 @@
 //! The start of a shard, and of the writers of a stream.
 
-ghost use Rattle.std.specs.Prelude.{◌≡◌, None, length, IfOk};
+ghost use Rattle.std.specs.Prelude.{◌≡◌, [], None, length, IfOk};
 ghost use Rattle.mx_front.specs.Shown.{known, number, place_of, writers_of};
 ghost use Rattle.mx_writers.specs.Shown.{IsShardOf};
 ghost use Rattle.mx_writers.specs.Start.{AreFreshPens, AreFreshFolds, AreShards};
@@ -8,6 +8,7 @@ ghost use Rattle.mx_writers.specs.Start.{AreFreshPens, AreFreshFolds, AreShards}
 use crate::board::Locks;
 use crate::folds::Folds;
 use crate::lane::Shard;
+use crate::number::Numbers;
 use crate::seen::Writers;
 use atomic_table::{Refused, Table};
 use mx_front::{Pen, Stream};
@@ -74,4 +75,15 @@ fn fresh_shards<F: Folds>(
         shards.push_reserved(Some(shard(index as u8, 0, fold, pen)));
     }
     Ok(shards)
+}
+
+/// The numbers of a writer, without a store. `Memory` where the allocator refuses the room for the first.
+pub fn numbers(alloc: Global, writer: u8) -> Result<Numbers, Memory>
+    ensures { IfOk result (λ n. (n.writer ≡ writer) × (n.stores.items ≡ [])) }
+{
+    Ok(Numbers {
+        writer,
+        stores: Vec::with_capacity(alloc, 1)?,
+        pending: None,
+    })
 }
