@@ -136,8 +136,8 @@ module _ {T : Type 0} (P : ℕ → TableId → T → Type 0) (at : TableId) wher
   claims slots ls id old k v c lt good knows =
       let w = get_or (words_of ls) (double k) 0 in
       exchanged w old (old + 1) (λ n. Goes ls id c (double k) n (claimed (step slots (double k) old (old + 1) maybe.none) (v, c) w))
-          (λ hit. hits (there ls k lt).0 (there ls k lt).1 hit)
-          (λ miss. stays ls id v c (double k) (claimed (step slots (double k) old (old + 1) maybe.none) (v, c) w) good knows (λ e. absurd (miss e), λ e. refl))
+      (λ hit. hits (there ls k lt).0 (there ls k lt).1 hit)
+      (λ miss. stays ls id v c (double k) (claimed (step slots (double k) old (old + 1) maybe.none) (v, c) w) good knows (λ e. absurd (miss e), λ e. refl))
     where
       hits : (l : Line T) → get_elem? ls k ≡ maybe.some l → get_or (words_of ls) (double k) 0 ≡ old
           → Goes ls id c (double k) (old + 1) (claimed (step slots (double k) old (old + 1) maybe.none) (v, c) (get_or (words_of ls) (double k) 0))

@@ -3,10 +3,12 @@ use Rattle.std.specs.Prelude.{◌≡◌, ℕ, List}
 use Rattle.atomic_table.specs.Seated.{TableId}
 use Rattle.mx_core.specs.declared.history.Stored.{Stored}
 use Rattle.mx_core.specs.declared.placed.Placed as placed
+use Rattle.mx_front.specs.declared.front.Stream.{Stream}
 use Rattle.mx_front.specs.declared.view.View.{View}
 use Rattle.mx_front.specs.Shown.{known, place_of_pen}
 use Rattle.mx_writers.specs.declared.folds.Folds.{Ghosts}
 use Rattle.mx_writers.specs.declared.lane.Shard.{Shard}
+use Rattle.mx_writers.specs.declared.seen.Writers.{Writers}
 
 module _ {F I D E : Type 0} {g : Ghosts F I D E} {h : placed.Ghosts I} where
   -- the number of its writer, and the stream that it stores to
@@ -26,3 +28,7 @@ module _ {F I D E : Type 0} {g : Ghosts F I D E} {h : placed.Ghosts I} where
   -- it is the shard of a writer of a stream
   abbrev pub IsShardOf : ℕ → TableId → Shard F I D E g h → Type 0
   IsShardOf k at s = (s.writer ≡ k) × (place_of_pen s.pen ≡ at)
+
+  -- the stream of some writers
+  abbrev pub stream_of : Writers F I D E g h → Stream I
+  stream_of w = w.stream

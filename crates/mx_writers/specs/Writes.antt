@@ -12,6 +12,7 @@ use Rattle.mx_writers.specs.Decision.{Decision, Placing, store_of, with_store, M
 -- the items are stored: the own list has one store more, what the pen has seen ends with it, and the front is that of this list
 pub record HasStored {I : Type 0} (place : Placing I) (k : ℕ) (mine : List (Stored I)) (xs : List I) (w : Written) (v : View I) : Type 0 where
   pub count : w.count ≡ length xs
+  pub some_items : 1 ≤ w.count
   pub lane : w.lane ≡ length mine
   pub follows : MayFollow mine w.first xs
   pub own_is : v.own ≡ with_store place k mine w.first xs

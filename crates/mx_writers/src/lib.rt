@@ -10,6 +10,8 @@ mod number;
 mod plays;
 mod seen;
 mod start;
+#[cfg(test)]
+mod tests;
 mod turned;
 mod turns;
 mod view;

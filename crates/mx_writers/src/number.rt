@@ -61,7 +61,9 @@ impl Numbers {
 
 impl Folds for Numbers {
     type Item = Number;
+
     type Draft = u64;
+
     type Fault = Zero;
 
     ghost use Rattle.mx_writers.specs.Decided.{decided, are_lawful};

@@ -46,8 +46,12 @@ pub fn writers<F: Folds>(
 {
     let words = vec![in alloc; 0u64; 2 * pens.len()]?;
     let shards = fresh_shards(alloc, &stream, pens, folds)?;
-    let made: Result<(Locks<F>, _), Refused<Option<Shard<F>>, Global>> =
-        Table::new(alloc, words.as_slice(), shards, &stream);
+    let made: Result<(Locks<F>, _), Refused<Option<Shard<F>>, Global>> = Table::new(
+        alloc,
+        words.as_slice(),
+        shards,
+        &stream,
+    );
     match made {
         Ok((table, _seat)) => Ok(Writers { stream, table }),
         Err(Refused { slots: _ }) => Err(Memory),

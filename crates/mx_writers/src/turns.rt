@@ -43,8 +43,12 @@ impl<F: Folds> Writers<F> {
         'tries: for _ in rt.forever() {
             let ticket = top.peek(word);
             if ticket < u64::MAX {
-                let found =
-                    top.compare_exchange::<plays::Claimed>(&mut seat, word, ticket, ticket + 1);
+                let found = top.compare_exchange::<plays::Claimed>(
+                    &mut seat,
+                    word,
+                    ticket,
+                    ticket + 1,
+                );
                 if found == ticket {
                     return (ticket, seat);
                 }
