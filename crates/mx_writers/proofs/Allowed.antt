@@ -1,5 +1,5 @@
 -- What the table of turns asks of each step, and of its start.
-use Rattle.std.proofs.Common.{◌≡◌, ◌≢◌, ℕ, zero, suc, ◌+◌, ◌*◌, ◌<◌, ◌⊎◌, eqb, List, [], ◌∷◌, ◌++◌, Option, Some, map, length, get_or, set, replicate, refl, sym, ap, ap₂, ◌∙◌, subst, ⊎_elim, inl, inr, arith}
+use Rattle.std.proofs.Common.{◌≡◌, ◌≢◌, ℕ, zero, suc, ◌+◌, ◌*◌, ◌<◌, eqb, List, [], ◌∷◌, Option, Some, map, length, get_or, set, replicate, refl, sym, ap, ◌∙◌, subst, ⊎_elim, inl, inr, arith}
 use Rattle.std.proofs.lemmas.List.{length-map}
 use mathlib.Core.Option as maybe
 use mathlib.Core.Option.{some-ne-none, some-injective}

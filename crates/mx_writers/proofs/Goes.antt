@@ -14,7 +14,7 @@ use Rattle.mx_front.specs.declared.view.Turn.TheVariants.{Idle, Waits, Has}
 use Rattle.mx_front.specs.World.{IsHome}
 use Rattle.mx_front.proofs.Worlds.{change, change_here, change_else}
 use Rattle.mx_writers.specs.declared.view.Ask.{Ask}
-use Rattle.mx_writers.specs.Locks.{Line, words_of, slots_of, Fits, IsGood, Waiting, Having, InLine, InQueue, Asks, Knows, AreGood}
+use Rattle.mx_writers.specs.Locks.{Line, words_of, slots_of, Fits, IsGood, InLine, InQueue, Asks, Knows, AreGood}
 use Rattle.mx_writers.specs.Tells.{Sat, claimed, came, left}
 use Rattle.mx_writers.proofs.Lines.{double, double_is, set_there, there, ticket_at, serving_at, ticket_set, serving_set, slot_at, slot_set, slot_same}
 

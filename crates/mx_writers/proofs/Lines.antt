@@ -1,5 +1,5 @@
 -- Queues side by side: the two words and the slot of each.
-use Rattle.std.proofs.Common.{◌≡◌, ◌≢◌, ℕ, zero, suc, ◌*◌, ◌<◌, List, [], ◌∷◌, Option, length, get_or, set, refl, sym, ap, ◌∙◌, arith}
+use Rattle.std.proofs.Common.{◌≡◌, ℕ, zero, suc, ◌*◌, ◌<◌, List, [], ◌∷◌, length, get_or, set, refl, sym, ap, ◌∙◌, arith}
 use mathlib.Core.Option as maybe
 use mathlib.Core.Option.{some-ne-none, some-injective}
 use lib.ListN.{get_elem?}

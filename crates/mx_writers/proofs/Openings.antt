@@ -1,5 +1,5 @@
 -- The shards at the start, one after another.
-use Rattle.std.proofs.Common.{◌≡◌, ℕ, zero, suc, ◌+◌, ◌*◌, ◌⊎◌, List, [], ◌∷◌, ◌++◌, Option, Some, None, option_to_list, length, length-append, slice_get, drop, replicate, refl, sym, ap, ◌∙◌, subst, inl, inr, arith}
+use Rattle.std.proofs.Common.{◌≡◌, ℕ, zero, suc, ◌+◌, ◌*◌, ◌⊎◌, List, [], ◌∷◌, ◌++◌, Option, Some, option_to_list, length, length-append, slice_get, drop, replicate, refl, sym, ap, ◌∙◌, subst, inl, inr, arith}
 use Rattle.std.proofs.lemmas.Option.{none-some}
 use mathlib.Core.Option as maybe
 use mathlib.Core.Option.{some-ne-none, some-injective}

@@ -1,4 +1,4 @@
-use Rattle.std.proofs.Common.{◌≡◌, ◌+◌, Some, rules, option_to_list, length, sym, ap, ◌∙◌, arith}
+use Rattle.std.proofs.Common.{◌≡◌, Some, rules, option_to_list, length, sym, ap, ◌∙◌, arith}
 use Rattle.mx_front.specs.Shown.{number, place_of_pen}
 use Rattle.mx_writers.proofs.Openings.{taken, one_more}
 use Rattle.mx_writers.proofs.start.fresh_shards.Goals as goal

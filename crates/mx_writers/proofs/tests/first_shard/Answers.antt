@@ -1,6 +1,5 @@
-use Rattle.std.proofs.Common.{◌≡◌, List, [], ◌∷◌, ◌++◌, Option, Some, None, option_to_list, length, slice_get, sym, ap, ◌∙◌}
-use Rattle.mx_front.specs.Shown.{known, place_of, place_of_pen}
-use Rattle.mx_front.specs.Start.{IsNewPen}
+use Rattle.std.proofs.Common.{◌≡◌, List, ◌++◌, Option, Some, option_to_list, length, slice_get, sym, ap, ◌∙◌}
+use Rattle.mx_front.specs.Shown.{place_of_pen}
 use Rattle.mx_writers.proofs.tests.first_shard.Goals as goal
 
 taken : {A : Type 0} (xs ys : List A) (o : Option A) (x : A) → xs ≡ option_to_list o ++ ys → o ≡ Some x → slice_get xs 0 ≡ Some x

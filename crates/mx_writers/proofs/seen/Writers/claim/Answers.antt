@@ -1,6 +1,5 @@
 use Rattle.std.proofs.Common.{◌≡◌, ◌*◌, rules, arith}
 use Rattle.mx_front.specs.Shown.{writers_of}
-use Rattle.mx_writers.specs.Shown.{IsShardOf}
 use Rattle.mx_writers.proofs.Allowed.{enters_at, claims_at}
 use Rattle.mx_writers.proofs.Hands.{claimed_from}
 use Rattle.mx_writers.proofs.seen.Writers.claim.Goals as goal

@@ -1,4 +1,4 @@
-use Rattle.std.proofs.Common.{rules, ap}
+use Rattle.std.proofs.Common.{ap}
 use Rattle.mx_writers.proofs.Hands.{hand_rest}
 use Rattle.mx_writers.proofs.seen.Writers.take_shard.Goals as goal
 
