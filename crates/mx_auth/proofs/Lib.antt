@@ -2,3 +2,4 @@ mod Entries
 mod Maps
 mod Named
 mod Next
+mod Sorted

@@ -1,9 +1,12 @@
 -- What is kept of a room with one event more.
-use Rattle.std.proofs.Common.{◌≡◌, ℕ, Bool, true, false, cond, ◌&&◌, ◌||◌, ◌==◌, List, [], ◌∷◌, ◌++◌, Option, Some, None, is_some, option_map, option_and_then, unwrap_or, refl, sym, ap, ◌∙◌, codes}
+use Rattle.std.proofs.Common.{◌≡◌, ℕ, ◌+◌, ◌≤◌, ◌<◌, Bool, true, false, cond, ◌&&◌, ◌||◌, List, [], ◌∷◌, ◌++◌, length, drop, map, Option, Some, None, is_some, option_map, option_and_then, unwrap_or, refl, sym, ap, ap₂, subst, ◌∙◌, codes, arith, length-append}
 use Rattle.std.proofs.lemmas.Bool.{and_parts}
+use Rattle.std.proofs.lemmas.List.{map-append, length-map}
 use Rattle.std.proofs.lemmas.List.Folds.{list_any-append}
+use Rattle.std.specs.List.{AllByRecursion}
+use Rattle.mx_window.proofs.Each.{AllByRecursion-append, AllByRecursion-weaker}
 use Rattle.std.proofs.lemmas.Slice.Eq.{bytes_eq-Decides}
-use Rattle.std.specs.Option.{option_or}
+use Rattle.std.specs.Option.{option_or, option_to_list}
 use Rattle.std.specs.Str.{bytes_eq}
 use Rattle.mx_window.specs.Lasts.{last_of}
 use Rattle.mx_window.proofs.Lasts.{last_of-append}
@@ -18,7 +21,9 @@ use Rattle.mx_auth.specs.declared.kept.Change.{Change}
 use Rattle.mx_auth.specs.declared.kept.Change.TheVariants.{Nothing, Creator, JoinRule, Powers, Membership}
 use Rattle.mx_auth.specs.declared.kept.Count.{Count}
 use Rattle.mx_auth.specs.declared.kept.Kept.{Kept}
-use Rattle.mx_auth.specs.Kept.{Memberships, Positions, IsKept, IsSet, count_of, next_count, change_of, creator_after, join_rule_after, powers_after, membership_after, membership_at, sent_at, has_sent}
+use Rattle.mx_auth.specs.declared.kept.Waiting.{Waiting}
+use Rattle.mx_auth.specs.Kept.{Memberships, HasRoom, IsKept, IsSet, IsWaiting, KeysStay, any_sent, count_of, next_count, change_of, creator_after, join_rule_after, powers_after, membership_after, membership_at, waiting_of}
+use Rattle.mx_auth.specs.Placing.{PlaceList, PlaceTest, any_place}
 
 -- ---- the definitions over one event more
 
@@ -52,13 +57,15 @@ powers_more = of_last_more (option_map content_of) (has_key power_type [])
 membership_more : (user : List ℕ) (es : List Event) (e : Event) → membership_of user (es ++ e ∷ []) ≡ cond (has_key member_type user e) (membership_in e.content) (membership_of user es)
 membership_more user = of_last_more (λ o. option_and_then membership_in (option_map content_of o)) (has_key member_type user)
 
-or-false : (a b : Bool) → (a || (b || false)) ≡ (a || b)
-or-false a true = refl
-or-false a false = refl
+or-last : (a b : Bool) → (a || (b || false)) ≡ (b || a)
+or-last true true = refl
+or-last true false = refl
+or-last false true = refl
+or-last false false = refl
 
-sent_more : (user : List ℕ) (at : ℕ) (es : List Event) (e : Event) → has_sent user at (es ++ e ∷ []) ≡ (has_sent user at es || ((at == e.id.at) && bytes_eq e.sender user))
-sent_more user at es e =
-    list_any-append (λ (f : Event). (at == f.id.at) && bytes_eq f.sender user) es (e ∷ []) ∙ or-false (has_sent user at es) ((at == e.id.at) && bytes_eq e.sender user)
+sent_more : (test : PlaceTest) (es : List Event) (e : Event) → any_sent test (es ++ e ∷ []) ≡ (test e.id.at e.sender || any_sent test es)
+sent_more test es e =
+    list_any-append (λ (f : Event). test f.id.at f.sender) es (e ∷ []) ∙ or-last (any_sent test es) (test e.id.at e.sender)
 
 -- ---- what a change sets, by the tests that choose it
 
@@ -159,29 +166,87 @@ module _ (e : Event) where
       ∙ ap (λ b. cond b (membership_in e.content) old) (about (is_of member_type e) e.state_key user)
 
 -- what is kept, once a change is set
-pub next_kept : (old new : Kept) (n : Count) (ms : Memberships) (ps : Positions) (es : List Event) (e : Event) (change : Change) (key : List ℕ)
-    → n ≡ next_count old.count → change ≡ change_of e → key ≡ target e → ((user : List ℕ) → membership_at ms user ≡ membership_at old.memberships user)
-    → ((u : List ℕ) (p : ℕ) → sent_at ps u p ≡ (sent_at old.sent u p || ((p == e.id.at) && bytes_eq e.sender u)))
-    → IsSet change key (record old { count = n; memberships = ms; sent = ps }) new → IsKept old es → IsKept new (es ++ e ∷ [])
-next_kept old new n ms ps es e change key more_by_one is about same more set kept = record {
+pub next_kept : (old new : Kept) (n : Count) (places : PlaceList) (es : List Event) (e : Event) (w : Waiting) (key : List ℕ) (at : ℕ)
+    → n ≡ next_count old.count → ((test : PlaceTest) → any_place test places.items ≡ (test at w.sender || any_place test old.places.items))
+    → IsSet w.change key (record old { count = n; places = places }) new → w ≡ waiting_of e → key ≡ target e → at ≡ e.id.at → IsKept old es → IsKept new (es ++ e ∷ [])
+next_kept old new n places es e w key at more_by_one more set is about stands kept = record {
   counted = set.counted ∙ more_by_one ∙ ap next_count kept.counted ∙ count_more es e;
-  created = set.created ∙ ap (λ c. creator_after c old.creator) is ∙ creator_changed e old.creator ∙ ap (cond (has_key create_type [] e) (Some e.sender)) kept.created ∙ sym (creator_more es e);
-  ruled = set.ruled ∙ ap (λ c. join_rule_after c old.join_rule) is ∙ rule_changed e old.join_rule ∙ ap (cond (has_key join_rules_type [] e) (text_at (codes "join_rule") e.content)) kept.ruled ∙ sym (join_rule_more es e);
-  leveled = set.leveled ∙ ap (λ c. powers_after c old.powers) is ∙ powers_changed e old.powers ∙ ap (cond (has_key power_type [] e) (Some e.content)) kept.leveled ∙ sym (powers_more es e);
+  created = set.created ∙ ap (λ (v : Waiting). creator_after v.change old.creator) is ∙ creator_changed e old.creator ∙ ap (cond (has_key create_type [] e) (Some e.sender)) kept.created ∙ sym (creator_more es e);
+  ruled = set.ruled ∙ ap (λ (v : Waiting). join_rule_after v.change old.join_rule) is ∙ rule_changed e old.join_rule ∙ ap (cond (has_key join_rules_type [] e) (text_at (codes "join_rule") e.content)) kept.ruled ∙ sym (join_rule_more es e);
+  leveled = set.leveled ∙ ap (λ (v : Waiting). powers_after v.change old.powers) is ∙ powers_changed e old.powers ∙ ap (cond (has_key power_type [] e) (Some e.content)) kept.leveled ∙ sym (powers_more es e);
   joined = λ user.
-      set.joined user ∙ ap (λ c. membership_after c key user (membership_at ms user)) is ∙ ap (λ k. membership_after (change_of e) k user (membership_at ms user)) about
-      ∙ membership_changed e user (membership_at ms user) ∙ ap (cond (has_key member_type user e) (membership_in e.content)) (same user ∙ kept.joined user) ∙ sym (membership_more user es e);
-  noted = λ user at. ap (λ s. sent_at s user at) set.noted ∙ more user at ∙ ap (λ b. b || ((at == e.id.at) && bytes_eq e.sender user)) (kept.noted user at) ∙ sym (sent_more user at es e);
+      set.joined user ∙ ap (λ (v : Waiting). membership_after v.change key user (membership_at old.memberships user)) is
+      ∙ ap (λ k. membership_after (change_of e) k user (membership_at old.memberships user)) about
+      ∙ membership_changed e user (membership_at old.memberships user) ∙ ap (cond (has_key member_type user e) (membership_in e.content)) (kept.joined user) ∙ sym (membership_more user es e);
+  placed = λ test.
+      ap (λ (l : PlaceList). any_place test l.items) set.placed ∙ more test ∙ ap₂ (λ (p : ℕ) (v : Waiting). test p v.sender || any_place test old.places.items) stands is
+      ∙ ap (λ b. test e.id.at e.sender || b) (kept.placed test) ∙ sym (sent_more test es e);
 }
 
 -- what is kept, where nothing that the rules ask is changed
-pub still_kept : (old : Kept) (ms : Memberships) (ps : Positions) (es : List Event) → ((user : List ℕ) → membership_at ms user ≡ membership_at old.memberships user)
-    → ((u : List ℕ) (p : ℕ) → sent_at ps u p ≡ sent_at old.sent u p) → IsKept old es → IsKept (record old { memberships = ms; sent = ps }) es
-still_kept old ms ps es same again kept = record {
+pub still_kept : (old : Kept) (ms : Memberships) (places : PlaceList) (es : List Event) → ((user : List ℕ) → membership_at ms user ≡ membership_at old.memberships user)
+    → places.items ≡ old.places.items → IsKept old es → IsKept (record old { memberships = ms; places = places }) es
+still_kept old ms places es same again kept = record {
   counted = kept.counted;
   created = kept.created;
   ruled = kept.ruled;
   leveled = kept.leveled;
   joined = λ user. same user ∙ kept.joined user;
-  noted = λ user at. again user at ∙ kept.noted user at;
+  placed = λ test. ap (any_place test) again ∙ kept.placed test;
 }
+
+-- ---- what waits
+
+-- the room for an event stands where no key is lost
+stays : (c : Change) (key : List ℕ) (m n : Memberships) → KeysStay m n → HasRoom c key m → HasRoom c key n
+stays Nothing key m n keys h = h
+stays (Creator user) key m n keys h = h
+stays (JoinRule text) key m n keys h = h
+stays (Powers content) key m n keys h = h
+stays (Membership membership) key m n keys h = keys key h
+
+rooms_stay : (m n : Memberships) (es : List Event) → KeysStay m n → AllByRecursion (λ (e : Event). HasRoom (change_of e) (target e) m) es → AllByRecursion (λ (e : Event). HasRoom (change_of e) (target e) n) es
+rooms_stay m n es keys = AllByRecursion-weaker (λ (e : Event). HasRoom (change_of e) (target e) m) (λ (e : Event). HasRoom (change_of e) (target e) n) (λ e. stays (change_of e) (target e) m n keys) es
+
+-- what waits goes on waiting
+pub still_waiting : (old new : Kept) (ws : List Waiting) (es : List Event) → KeysStay old.memberships new.memberships → length es ≤ new.places.spare → IsWaiting old ws es → IsWaiting new ws es
+still_waiting old new ws es keys room h = record { copied = h.copied; rooms = rooms_stay old.memberships new.memberships es keys h.rooms; places = room }
+
+-- one more waits
+pub more_waiting : (old new : Kept) (ws : List Waiting) (es : List Event) (w : Waiting) (e : Event) → KeysStay old.memberships new.memberships → length es + 1 ≤ new.places.spare
+    → w ≡ waiting_of e → HasRoom (change_of e) (target e) new.memberships → IsWaiting old ws es → IsWaiting new (ws ++ w ∷ []) (es ++ e ∷ [])
+more_waiting old new ws es w e keys room is here h = record {
+  copied = ap₂ (λ vs (v : Waiting). vs ++ v ∷ []) h.copied is ∙ sym (map-append waiting_of es (e ∷ []));
+  rooms = AllByRecursion-append (λ (x : Event). HasRoom (change_of x) (target x) new.memberships) es (e ∷ []) (rooms_stay old.memberships new.memberships es keys h.rooms) (here, tt);
+  places = omega (arith, room, length-append es (e ∷ []));
+}
+
+-- how many wait
+pub count_waiting : (kept : Kept) (ws : List Waiting) (es : List Event) → IsWaiting kept ws es → length ws ≡ length es
+count_waiting kept ws es h = ap length h.copied ∙ length-map es waiting_of
+
+-- the first that waits
+pub first_waiting : (kept : Kept) (ws : List Waiting) (es : List Event) (e : Event) → es ≡ e ∷ drop 1 es → IsWaiting kept ws es
+    → (ws ≡ waiting_of e ∷ map waiting_of (drop 1 es)) × HasRoom (change_of e) (target e) kept.memberships × (0 < kept.places.spare) × AllByRecursion (λ (x : Event). HasRoom (change_of x) (target x) kept.memberships) (drop 1 es) × (length (drop 1 es) + 1 ≤ kept.places.spare)
+first_waiting kept ws es e is h =
+    let rooms = subst (AllByRecursion (λ (x : Event). HasRoom (change_of x) (target x) kept.memberships)) is h.rooms in
+    (h.copied ∙ ap (map waiting_of) is, rooms.0, omega (arith, h.places, ap length is), rooms.1, omega (arith, h.places, ap length is))
+
+-- the others that wait, once the first is settled
+pub rest_waiting : (old new : Kept) (ws rest : List Waiting) (es : List Event) (e : Event) → es ≡ e ∷ drop 1 es → IsWaiting old ws es → rest ≡ drop 1 ws → KeysStay old.memberships new.memberships
+    → new.places.spare + 1 ≡ old.places.spare → IsWaiting new rest (drop 1 es)
+rest_waiting old new ws rest es e is h left keys spare =
+    let first = first_waiting old ws es e is h in record {
+      copied = left ∙ ap (drop 1) first.0;
+      rooms = rooms_stay old.memberships new.memberships (drop 1 es) keys first.3;
+      places = omega (arith, first.4, spare);
+    }
+
+first_or : {A : Type 0} → A → List A → A
+first_or d [] = d
+first_or d (x ∷ xs) = x
+
+-- what is taken from the front of a list
+pub popped : {A : Type 0} (ws rest : List A) (o : Option A) (w v : A) (vs : List A) → ws ≡ option_to_list o ++ rest → o ≡ Some w → ws ≡ v ∷ vs → w ≡ v
+unfolding first_or
+popped ws rest o w v vs is some begins = ap (first_or w) (sym (is ∙ ap (λ p. option_to_list p ++ rest) some) ∙ begins)

@@ -1,16 +1,13 @@
 -- What is kept of the events of a room, and what an event changes of it.
-use Rattle.std.specs.Prelude.{◌≡◌, ℕ, Bool, false, ◌==◌, ◌&&◌, is_some, List, [], ◌∷◌, String, Option, Some, IsSome, if◌then◌else◌, codes}
-use Rattle.std.specs.BTreeMap as tree
+use Rattle.std.specs.Prelude.{◌≡◌, ℕ, ◌≤◌, Bool, ◌==◌, ◌&&◌, is_some, List, [], ◌∷◌, length, map, String, Option, Some, IsSome, if◌then◌else◌, codes}
 use Rattle.std.specs.BTreeMap.{BTreeMap, get_by_text}
-use Rattle.std.specs.BTreeSet.{BTreeSet, contains}
-use Rattle.std.specs.Cmp.Lexicographic.{slice_cmp}
 use Rattle.std.specs.declared.alloc.Global.{Global}
-use Rattle.std.specs.List.{list_any}
-use Rattle.std.specs.Option.{option_flatten, option_map_or}
-use Rattle.std.specs.Ordering.{nat_cmp}
+use Rattle.std.specs.List.{AllByRecursion, list_any}
+use Rattle.std.specs.Option.{option_flatten}
 use Rattle.std.specs.Str.{bytes_eq}
 use Rattle.mx_json.specs.Fields.{text_at}
 use Rattle.mx_json.specs.declared.value.Json.{Json}
+use Rattle.mx_event.specs.Denied.{target}
 use Rattle.mx_event.specs.Kinds.{create_type, member_type, power_type, join_rules_type, has_key, is_of}
 use Rattle.mx_event.specs.Levels.{powers}
 use Rattle.mx_event.specs.State.{creator, join_rule, membership_in, membership_of}
@@ -20,6 +17,8 @@ use Rattle.mx_auth.specs.declared.kept.Change.TheVariants.{Nothing, Creator, Joi
 use Rattle.mx_auth.specs.declared.kept.Count.{Count}
 use Rattle.mx_auth.specs.declared.kept.Count.TheVariants.{Zero, One, More}
 use Rattle.mx_auth.specs.declared.kept.Kept.{Kept}
+use Rattle.mx_auth.specs.declared.kept.Waiting.{Waiting}
+use Rattle.mx_auth.specs.Placing.{PlaceTest, any_place}
 
 abbrev pub count_of : List Event → Count
 count_of [] = Zero
@@ -35,21 +34,25 @@ next_count More = More
 abbrev pub Memberships : Type 0
 Memberships = BTreeMap (String Global) (Option (List ℕ))
 
--- the positions of the events of each sender
-abbrev pub Positions : Type 0
-Positions = BTreeMap (List ℕ) (BTreeSet ℕ)
-
 -- the membership that is kept for a user
 abbrev pub membership_at : Memberships → List ℕ → Option (List ℕ)
 membership_at m user = option_flatten (get_by_text m user)
 
--- a position is kept for a user
-abbrev pub sent_at : Positions → List ℕ → ℕ → Bool
-sent_at m user at = option_map_or (λ s. contains nat_cmp s at) (tree.get (slice_cmp nat_cmp) m user) false
+-- no key is lost
+abbrev pub KeysStay : Memberships → Memberships → Type 0
+KeysStay m n = (key : List ℕ) → IsSome (get_by_text m key) → IsSome (get_by_text n key)
+
+-- an event passes a test of its position and its sender
+abbrev pub any_sent : PlaceTest → List Event → Bool
+any_sent test es = list_any (λ (e : Event). test e.id.at e.sender) es
 
 -- a user sent an event at a position
 abbrev pub has_sent : List ℕ → ℕ → List Event → Bool
-has_sent user at es = list_any (λ (e : Event). (at == e.id.at) && bytes_eq e.sender user) es
+has_sent user at es = any_sent (λ p sender. (at == p) && bytes_eq sender user) es
+
+-- an event is at a position
+abbrev pub has_event : ℕ → List Event → Bool
+has_event at es = any_sent (λ p sender. at == p) es
 
 -- what is kept of a room with these events
 pub record IsKept (kept : Kept) (es : List Event) : Type 0 where
@@ -58,7 +61,7 @@ pub record IsKept (kept : Kept) (es : List Event) : Type 0 where
   pub ruled : kept.join_rule ≡ join_rule es
   pub leveled : kept.powers ≡ powers es
   pub joined : (user : List ℕ) → membership_at kept.memberships user ≡ membership_of user es
-  pub noted : (user : List ℕ) (at : ℕ) → sent_at kept.sent user at ≡ has_sent user at es
+  pub placed : (test : PlaceTest) → any_place test kept.places.items ≡ any_sent test es
 
 -- what an event sets
 abbrev pub change_of : Event → Change
@@ -104,7 +107,8 @@ pub record IsSet (change : Change) (key : List ℕ) (old new : Kept) : Type 0 wh
   pub ruled : new.join_rule ≡ join_rule_after change old.join_rule
   pub leveled : new.powers ≡ powers_after change old.powers
   pub joined : (user : List ℕ) → membership_at new.memberships user ≡ membership_after change key user (membership_at old.memberships user)
-  pub noted : new.sent ≡ old.sent
+  pub placed : new.places ≡ old.places
+  pub keys : KeysStay old.memberships new.memberships
 
 -- there is room for the membership that a change sets under a key
 abbrev pub HasRoom : Change → List ℕ → Memberships → Type 0
@@ -113,3 +117,13 @@ HasRoom (Creator user) key m = Unit {0}
 HasRoom (JoinRule rule) key m = Unit {0}
 HasRoom (Powers content) key m = Unit {0}
 HasRoom (Membership membership) key m = IsSome (get_by_text m key)
+
+-- what waits to be settled of an event
+abbrev pub waiting_of : Event → Waiting
+waiting_of e = record { change = change_of e; sender = e.sender }
+
+-- there is room for events, of which these parts wait
+pub record IsWaiting (kept : Kept) (ws : List Waiting) (es : List Event) : Type 0 where
+  pub copied : ws ≡ map waiting_of es
+  pub rooms : AllByRecursion (λ (e : Event). HasRoom (change_of e) (target e) kept.memberships) es
+  pub places : length es ≤ kept.places.spare

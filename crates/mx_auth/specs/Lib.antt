@@ -1,2 +1,4 @@
-pub mod Kept
 pub mod Entries
+pub mod Kept
+pub mod Placing
+pub mod Standing

@@ -41,7 +41,7 @@ pub struct Denial {
 ///     isn't above;
 /// 12. a redaction names an event of the room that its sender sent, or the sender has the level (this server's own rule).
 pub fn allowed(event: &Event, state: &AuthState) -> Result<(), Denial>
-    ensures { MatchResult result (λ _. denied event.now state.now ≡ None) (λ denial. denied event.now state.now ≡ Some denial.rule) }
+    ensures { MatchResult result (λ _. denied event.now state.now.events ≡ None) (λ denial. denied event.now state.now.events ≡ Some denial.rule) }
 {
     match first_broken(event, state) {
         Some(rule) => Err(Denial { rule }),
@@ -51,7 +51,7 @@ pub fn allowed(event: &Event, state: &AuthState) -> Result<(), Denial>
 
 /// The first rule that refuses an event.
 fn first_broken(event: &Event, state: &AuthState) -> Option<u8>
-    ensures { result ≡ denied event.now state.now }
+    ensures { result ≡ denied event.now state.now.events }
 {
     if breaks_create(event, state) {
         Some(1)
@@ -68,7 +68,7 @@ fn first_broken(event: &Event, state: &AuthState) -> Option<u8>
 
 /// The rule for the membership that a member event gives, if it refuses the event.
 fn membership_rule(event: &Event, state: &AuthState) -> Option<u8>
-    ensures { result ≡ first_broken (membership_rule event.now state.now ∷ []) }
+    ensures { result ≡ first_broken (membership_rule event.now state.now.events ∷ []) }
 {
     let (rule, is_broken) = if gives("join", event) {
         (3, breaks_join(event, state))
@@ -84,7 +84,7 @@ fn membership_rule(event: &Event, state: &AuthState) -> Option<u8>
 
 /// The first rule that refuses an event that is neither a create nor a member event.
 fn general_rule(event: &Event, state: &AuthState) -> Option<u8>
-    ensures { result ≡ first_broken (general_rules event.now state.now) }
+    ensures { result ≡ first_broken (general_rules event.now state.now.events) }
 {
     if breaks_sender(event, state) {
         Some(7)

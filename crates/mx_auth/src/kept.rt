@@ -1,17 +1,19 @@
 //! What is kept of the events of a room: what the rules ask of them.
-ghost use Rattle.std.specs.Prelude.{◌≡◌, ℕ, List, [], ◌∷◌, ◌++◌, ◌==◌, ◌&&◌, ◌||◌, Some, None, IfOk, OnOk, OnErr, IsSome, if◌then◌else◌};
+ghost use Rattle.std.specs.Prelude.{◌≡◌, ◌<◌, ◌≤◌, ◌+◌, ℕ, List, [], ◌∷◌, ◌++◌, Some, None, IfOk, OnOk, IsSome, if◌then◌else◌};
 ghost use Rattle.std.specs.BTreeMap.{get_by_text};
 ghost use Rattle.std.specs.Str.{bytes_eq};
 ghost use Rattle.mx_json.specs.Fields.{text_at};
+ghost use Rattle.mx_event.specs.Denied.{target};
 ghost use Rattle.mx_event.specs.declared.event.Event.{Event};
-ghost use Rattle.mx_auth.specs.Kept.{change_of, membership_at, next_count, sent_at, HasRoom, IsKept, IsSet};
+ghost use Rattle.mx_auth.specs.Kept.{change_of, membership_at, next_count, waiting_of, HasRoom, IsKept, IsSet, KeysStay};
 
 use crate::kinds::{CREATE, JOIN_RULES, MEMBER, POWER_LEVELS, has_key, is_of, target};
+use crate::places::{Place, Places};
 use mx_event::Event;
 use mx_ids::{Copied, Memory, Text, UserId};
 use mx_json::Json;
 use std::alloc::Global;
-use std::collections::{BTreeMap, BTreeSet};
+use std::collections::BTreeMap;
 
 /// How many events a room has, as far as the rules ask.
 #[derive(Clone, Copy, Debug, PartialEq, Eq)]
@@ -46,8 +48,8 @@ pub(crate) struct Kept {
     pub(crate) powers: Option<Json>,
     /// The standing membership under each state key. A key that has none is as one that isn't here.
     pub(crate) memberships: BTreeMap<String, Option<Text>>,
-    /// The positions of the events that each user sent.
-    pub(crate) sent: BTreeMap<UserId, BTreeSet<u64>>,
+    /// At which positions the events stand, and who sent them.
+    pub(crate) places: Places,
 }
 
 /// What an event sets.
@@ -58,6 +60,13 @@ pub(crate) enum Change {
     JoinRule(Option<Text>),
     Powers(Json),
     Membership(Option<Text>),
+}
+
+/// What an event sets and who sent it, copied before the event is taken in.
+#[derive(Drop)]
+pub(crate) struct Waiting {
+    pub(crate) change: Change,
+    pub(crate) sender: UserId,
 }
 
 /// A copy of what an event sets.
@@ -96,6 +105,7 @@ fn make_room(
 ) -> Result<(), Memory>
     ensures room { OnOk result (HasRoom change.now key.now memberships.new) }
     ensures same { (user : List ℕ) → membership_at memberships.new user ≡ membership_at memberships.old user }
+    ensures keys { KeysStay memberships.old memberships.new }
 {
     match change {
         Change::Membership(_) => make_room_at(alloc, memberships, key),
@@ -110,6 +120,7 @@ fn make_room_at(
 ) -> Result<(), Memory>
     ensures room { OnOk result (IsSome (get_by_text memberships.new key.now)) }
     ensures same { (user : List ℕ) → membership_at memberships.new user ≡ membership_at memberships.old user }
+    ensures keys { KeysStay memberships.old memberships.new }
 {
     if !memberships.contains_key(key) {
         memberships.insert(String::from_str(alloc, key)?, None)?;
@@ -124,31 +135,12 @@ fn set_membership(
     membership: Option<Text>,
 )
     requires { IsSome (get_by_text memberships.old key.now) }
-    ensures { (user : List ℕ) → membership_at memberships.new user ≡ (if bytes_eq key.now user then membership else membership_at memberships.old user) }
+    ensures set { (user : List ℕ) → membership_at memberships.new user ≡ (if bytes_eq key.now user then membership else membership_at memberships.old user) }
+    ensures keys { KeysStay memberships.old memberships.new }
 {
     if let Some(place) = memberships.get_mut(key) {
         *place = membership;
     }
-}
-
-/// Notes that a user sent the event at a position. `Memory` leaves what was noted.
-fn note(
-    alloc: Global,
-    sent: &mut BTreeMap<UserId, BTreeSet<u64>>,
-    user: &UserId,
-    at: u64,
-) -> Result<(), Memory>
-    ensures ok { OnOk result ((u : List ℕ) (p : ℕ) → sent_at sent.new u p ≡ (sent_at sent.old u p || ((p == at) && bytes_eq user.now u))) }
-    ensures same { OnErr result ((u : List ℕ) (p : ℕ) → sent_at sent.new u p ≡ sent_at sent.old u p) }
-{
-    if let Some(positions) = sent.get_mut(user) {
-        positions.insert(at)?;
-        return Ok(());
-    }
-    let mut positions = BTreeSet::new(alloc);
-    positions.insert(at)?;
-    sent.insert(user.copy(alloc)?, positions)?;
-    Ok(())
 }
 
 impl Kept {
@@ -162,7 +154,7 @@ impl Kept {
             join_rule: None,
             powers: None,
             memberships: BTreeMap::new(alloc),
-            sent: BTreeMap::new(alloc),
+            places: Places::new(alloc),
         }
     }
 
@@ -182,17 +174,39 @@ impl Kept {
         }
     }
 
-    /// Takes an event in, after the events that what is kept is of. `Memory` leaves it to be of these.
-    pub(crate) fn take(&mut self, alloc: Global, event: &Event) -> Result<(), Memory>
-        ensures ok { (es : List Event) → IsKept self.old es → OnOk result (IsKept self.new (es ++ event.now ∷ [])) }
-        ensures same { (es : List Event) → IsKept self.old es → OnErr result (IsKept self.new es) }
+    /// Makes room for an event, and for `count` places in all, so that what the event sets can be settled without memory.
+    /// What is kept is of the same events, also where the answer is `Memory`.
+    pub(crate) fn prepare(
+        &mut self,
+        alloc: Global,
+        event: &Event,
+        count: usize,
+    ) -> Result<Waiting, Memory>
+        ensures ready { IfOk result (λ w. w ≡ waiting_of event.now) }
+        ensures room { OnOk result (HasRoom (change_of event.now) (target event.now) self.new.memberships) }
+        ensures places { OnOk result (count ≤ self.new.places.spare) }
+        ensures kept { (es : List Event) → IsKept self.old es → IsKept self.new es }
+        ensures keys { KeysStay self.old.memberships self.new.memberships }
+        ensures spare { self.old.places.spare ≤ self.new.places.spare }
     {
         let change = change_of(alloc, event)?;
-        let key = target(event);
-        make_room(alloc, &mut self.memberships, key, &change)?;
-        note(alloc, &mut self.sent, &event.sender, event.id.at)?;
+        let sender = event.sender.copy(alloc)?;
+        self.places.reserve(count)?;
+        make_room(alloc, &mut self.memberships, target(event), &change)?;
+        Ok(Waiting { change, sender })
+    }
+
+    /// Takes in, at a position, an event with this state key of which room was made. Takes no memory.
+    pub(crate) fn settle(&mut self, key: &str, waiting: Waiting, at: u64)
+        requires room { HasRoom waiting.change key.now self.old.memberships }
+        requires places { 0 < self.old.places.spare }
+        ensures kept { (e : Event) (es : List Event) → waiting ≡ waiting_of e → key.now ≡ target e → at ≡ e.id.at → IsKept self.old es → IsKept self.new (es ++ e ∷ []) }
+        ensures keys { KeysStay self.old.memberships self.new.memberships }
+        ensures spare { self.new.places.spare + 1 ≡ self.old.places.spare }
+    {
+        let Waiting { change, sender } = waiting;
+        self.places.put(Place { at, sender });
         self.count = self.count.next();
         self.set(key, change);
-        Ok(())
     }
 }

@@ -12,14 +12,14 @@ use mx_json::Json;
 /// The power level of a user: its entry in the standing power levels, else `users_default`, else 0. Where no power levels
 /// stand, the user who created the room has 100 and others have 0. Takes no memory.
 pub fn level(state: &AuthState, user: &UserId) -> i64
-    ensures { result ≡ level_of user.now state.now }
+    ensures { result ≡ level_of user.now state.now.events }
 {
     level_of(state, user.as_str())
 }
 
 /// The power level of whom a text names.
 pub(crate) fn level_of(state: &AuthState, user: &str) -> i64
-    ensures { result ≡ level_of user.now state.now }
+    ensures { result ≡ level_of user.now state.now.events }
 {
     match state.powers() {
         Some(powers) => match entry_at("users", user, powers) {
@@ -32,7 +32,7 @@ pub(crate) fn level_of(state: &AuthState, user: &str) -> i64
 
 /// The level of a user before there are power levels.
 fn first_level(state: &AuthState, user: &str) -> i64
-    ensures { result ≡ (if is_text user.now (creator state.now) then pos 100 else pos 0) }
+    ensures { result ≡ (if is_text user.now (creator state.now.events) then pos 100 else pos 0) }
 {
     match state.creator() {
         Some(creator) if creator.as_str() == user => 100,
@@ -49,7 +49,7 @@ pub(crate) fn entry_at(map: &str, key: &str, content: &Json) -> Option<i64>
 
 /// The level at a key of the standing power levels, or its default.
 fn level_at(state: &AuthState, key: &str, otherwise: i64) -> i64
-    ensures { result ≡ level_at key.now otherwise (powers state.now) }
+    ensures { result ≡ level_at key.now otherwise (powers state.now.events) }
 {
     match state.powers() {
         Some(powers) => powers.int_at(key).unwrap_or(otherwise),
@@ -59,35 +59,35 @@ fn level_at(state: &AuthState, key: &str, otherwise: i64) -> i64
 
 /// The level that inviting needs.
 pub(crate) fn invite_level(state: &AuthState) -> i64
-    ensures { result ≡ invite_level state.now }
+    ensures { result ≡ invite_level state.now.events }
 {
     level_at(state, "invite", 0)
 }
 
 /// The level that kicking needs.
 pub(crate) fn kick_level(state: &AuthState) -> i64
-    ensures { result ≡ kick_level state.now }
+    ensures { result ≡ kick_level state.now.events }
 {
     level_at(state, "kick", 50)
 }
 
 /// The level that banning needs.
 pub(crate) fn ban_level(state: &AuthState) -> i64
-    ensures { result ≡ ban_level state.now }
+    ensures { result ≡ ban_level state.now.events }
 {
     level_at(state, "ban", 50)
 }
 
 /// The level that redacting another's event needs.
 pub(crate) fn redact_level(state: &AuthState) -> i64
-    ensures { result ≡ redact_level state.now }
+    ensures { result ≡ redact_level state.now.events }
 {
     level_at(state, "redact", 50)
 }
 
 /// The level that an event without an entry of its type needs.
 fn default_level(state: &AuthState, is_state: bool) -> i64
-    ensures { result ≡ default_level is_state state.now }
+    ensures { result ≡ default_level is_state state.now.events }
 {
     if is_state {
         level_at(state, "state_default", 50)
@@ -98,7 +98,7 @@ fn default_level(state: &AuthState, is_state: bool) -> i64
 
 /// The level that an event needs.
 pub(crate) fn needed_level(event: &Event, state: &AuthState) -> i64
-    ensures { result ≡ needed_level event.now state.now }
+    ensures { result ≡ needed_level event.now state.now.events }
 {
     let entry = match state.powers() {
         Some(powers) => entry_at("events", event.kind.as_str(), powers),

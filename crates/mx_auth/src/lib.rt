@@ -7,6 +7,7 @@ mod kept;
 mod kinds;
 mod levels;
 mod membership_rules;
+mod places;
 mod rules;
 mod state;
 mod taken;
@@ -15,4 +16,5 @@ mod tests;
 
 pub use denial::{Denial, allowed};
 pub use levels::level;
+pub use rules::has_target;
 pub use state::AuthState;

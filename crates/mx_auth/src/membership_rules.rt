@@ -11,46 +11,46 @@ use mx_event::Event;
 use mx_ids::{Text, is_user_id};
 
 fn has_membership(membership: &str, user: &str, state: &AuthState) -> bool
-    ensures { result ≡ is_text membership.now (membership_of user.now state.now) }
+    ensures { result ≡ is_text membership.now (membership_of user.now state.now.events) }
 {
     is_text(membership, state.membership_of(user))
 }
 
 pub(crate) fn is_joined(user: &str, state: &AuthState) -> bool
-    ensures { result ≡ is_joined user.now state.now }
+    ensures { result ≡ is_joined user.now state.now.events }
 {
     has_membership("join", user, state)
 }
 
 fn is_invited(user: &str, state: &AuthState) -> bool
-    ensures { result ≡ is_invited user.now state.now }
+    ensures { result ≡ is_invited user.now state.now.events }
 {
     has_membership("invite", user, state)
 }
 
 fn is_banned(user: &str, state: &AuthState) -> bool
-    ensures { result ≡ is_banned user.now state.now }
+    ensures { result ≡ is_banned user.now state.now.events }
 {
     has_membership("ban", user, state)
 }
 
 /// Whether the sender has at least this level.
 pub(crate) fn reaches(level: i64, event: &Event, state: &AuthState) -> bool
-    ensures { result ≡ reaches level event.now state.now }
+    ensures { result ≡ reaches level event.now state.now.events }
 {
     level <= level_of(state, event.sender.as_str())
 }
 
 /// Whether the target's level is below the sender's.
 fn is_over_target(event: &Event, state: &AuthState) -> bool
-    ensures { result ≡ is_over_target event.now state.now }
+    ensures { result ≡ is_over_target event.now state.now.events }
 {
     level_of(state, target(event)) < level_of(state, event.sender.as_str())
 }
 
 /// Rule 2: a member event of no user, or with another membership than `join`, `invite`, `leave` and `ban`.
 pub(crate) fn breaks_member_form(event: &Event, state: &AuthState) -> bool
-    ensures { result ≡ breaks_member_form event.now state.now }
+    ensures { result ≡ breaks_member_form event.now state.now.events }
 {
     !is_user_id(target(event))
         || !(gives("join", event)
@@ -61,7 +61,7 @@ pub(crate) fn breaks_member_form(event: &Event, state: &AuthState) -> bool
 
 /// Whether an event is the creator's own join, right after the create event.
 fn is_first_join(event: &Event, state: &AuthState) -> bool
-    ensures { result ≡ is_first_join event.now state.now }
+    ensures { result ≡ is_first_join event.now state.now.events }
 {
     match state.creator() {
         Some(creator) => {
@@ -94,7 +94,7 @@ fn is_open_by(rule: &str, is_member: bool) -> bool
 
 /// Rule 3: a join, unless it is the first one, or the sender's own, who isn't banned and whom the join rule lets in.
 pub(crate) fn breaks_join(event: &Event, state: &AuthState) -> bool
-    ensures { result ≡ breaks_join event.now state.now }
+    ensures { result ≡ breaks_join event.now state.now.events }
 {
     let sender = event.sender.as_str();
     !is_first_join(event, state)
@@ -108,7 +108,7 @@ pub(crate) fn breaks_join(event: &Event, state: &AuthState) -> bool
 
 /// Rule 4: an invite, unless by a joined sender with the level, of one who is neither joined nor banned.
 pub(crate) fn breaks_invite(event: &Event, state: &AuthState) -> bool
-    ensures { result ≡ breaks_invite event.now state.now }
+    ensures { result ≡ breaks_invite event.now state.now.events }
 {
     !(is_joined(event.sender.as_str(), state)
         && !is_joined(target(event), state)
@@ -118,7 +118,7 @@ pub(crate) fn breaks_invite(event: &Event, state: &AuthState) -> bool
 
 /// Whether an event is one's own leave, of an invitation, a stay or a knock.
 fn is_own_leave(event: &Event, state: &AuthState) -> bool
-    ensures { result ≡ is_own_leave event.now state.now }
+    ensures { result ≡ is_own_leave event.now state.now.events }
 {
     is_own(event)
         && (is_invited(target(event), state)
@@ -128,7 +128,7 @@ fn is_own_leave(event: &Event, state: &AuthState) -> bool
 
 /// Whether an event is a kick or the end of a ban that its sender may send.
 fn is_kick(event: &Event, state: &AuthState) -> bool
-    ensures { result ≡ is_kick event.now state.now }
+    ensures { result ≡ is_kick event.now state.now.events }
 {
     !is_own(event)
         && is_joined(event.sender.as_str(), state)
@@ -139,14 +139,14 @@ fn is_kick(event: &Event, state: &AuthState) -> bool
 
 /// Rule 5: a leave, unless one's own, or of another by a joined sender with the levels, over the target's.
 pub(crate) fn breaks_leave(event: &Event, state: &AuthState) -> bool
-    ensures { result ≡ breaks_leave event.now state.now }
+    ensures { result ≡ breaks_leave event.now state.now.events }
 {
     !(is_own_leave(event, state) || is_kick(event, state))
 }
 
 /// Rule 6: a ban, unless by a joined sender with the level, over the target's.
 pub(crate) fn breaks_ban(event: &Event, state: &AuthState) -> bool
-    ensures { result ≡ breaks_ban event.now state.now }
+    ensures { result ≡ breaks_ban event.now state.now.events }
 {
     !(is_joined(event.sender.as_str(), state)
         && reaches(ban_level(state), event, state)

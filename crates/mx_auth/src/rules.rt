@@ -1,7 +1,10 @@
 //! The rules for every event, and for events that are neither create nor member events. Each function says whether a rule
 //! refuses an event.
 ghost use Rattle.std.specs.Prelude.{◌≡◌, option_map};
-ghost use Rattle.mx_event.specs.Shown.{named_id};
+ghost use Rattle.std.specs.List.{list_any};
+ghost use Rattle.mx_event.specs.Lawful.{has_target};
+ghost use Rattle.mx_event.specs.Shown.{named_id, names};
+ghost use Rattle.mx_event.specs.declared.event.Event.{Event};
 ghost use Rattle.mx_event.specs.Denied.{breaks_create, breaks_level, breaks_power_change, breaks_power_form, breaks_redaction, breaks_sender, breaks_user_key, is_of_a_user, names_own};
 
 use crate::changes::{Sender, is_well_formed, passes_own_level};
@@ -14,7 +17,7 @@ use mx_ids::{EventId, Text, read_event_id};
 
 /// Rule 1: a create event that isn't the first event, or another event that is.
 pub(crate) fn breaks_create(event: &Event, state: &AuthState) -> bool
-    ensures { result ≡ breaks_create event.now state.now }
+    ensures { result ≡ breaks_create event.now state.now.events }
 {
     if is_of(CREATE, event) {
         !state.is_empty()
@@ -25,14 +28,14 @@ pub(crate) fn breaks_create(event: &Event, state: &AuthState) -> bool
 
 /// Rule 7: a sender who isn't joined.
 pub(crate) fn breaks_sender(event: &Event, state: &AuthState) -> bool
-    ensures { result ≡ breaks_sender event.now state.now }
+    ensures { result ≡ breaks_sender event.now state.now.events }
 {
     !is_joined(event.sender.as_str(), state)
 }
 
 /// Rule 8: a sender below the level that the event needs.
 pub(crate) fn breaks_level(event: &Event, state: &AuthState) -> bool
-    ensures { result ≡ breaks_level event.now state.now }
+    ensures { result ≡ breaks_level event.now state.now.events }
 {
     !reaches(needed_level(event, state), event, state)
 }
@@ -48,21 +51,21 @@ fn is_of_a_user(key: Option<&Text>) -> bool
 
 /// Rule 9: a state key that begins with `@` and isn't the sender.
 pub(crate) fn breaks_user_key(event: &Event, state: &AuthState) -> bool
-    ensures { result ≡ breaks_user_key event.now state.now }
+    ensures { result ≡ breaks_user_key event.now state.now.events }
 {
     is_of_a_user(event.state_key.as_ref()) && !is_own(event)
 }
 
 /// Rule 10: power levels that aren't of their form.
 pub(crate) fn breaks_power_form(event: &Event, state: &AuthState) -> bool
-    ensures { result ≡ breaks_power_form event.now state.now }
+    ensures { result ≡ breaks_power_form event.now state.now.events }
 {
     is_of(POWER_LEVELS, event) && !is_well_formed(&event.content)
 }
 
 /// Rule 11: power levels that change the standing ones beyond the sender's level.
 pub(crate) fn breaks_power_change(event: &Event, state: &AuthState) -> bool
-    ensures { result ≡ breaks_power_change event.now state.now }
+    ensures { result ≡ breaks_power_change event.now state.now.events }
 {
     if !is_of(POWER_LEVELS, event) {
         return false;
@@ -93,7 +96,7 @@ fn named_id(event: &Event) -> Option<EventId>
 
 /// Whether an event names one of the room that its sender sent.
 fn names_own(event: &Event, state: &AuthState) -> bool
-    ensures { result ≡ names_own event.now state.now }
+    ensures { result ≡ names_own event.now state.now.events }
 {
     match named_id(event) {
         Some(named) => state.has_sent(&event.sender, named.at),
@@ -101,10 +104,28 @@ fn names_own(event: &Event, state: &AuthState) -> bool
     }
 }
 
+/// Whether an event names one of its room, if it is a redaction (Client-Server API, Redactions). Of another event nothing is
+/// asked. Takes no memory.
+pub fn has_target(event: &Event, state: &AuthState) -> bool
+    ensures { result ≡ has_target event.now state.now.events }
+{
+    !event.is_redaction() || names_event(event, state)
+}
+
+/// Whether an event names one of the room.
+fn names_event(event: &Event, state: &AuthState) -> bool
+    ensures { result ≡ list_any (λ (e : Event). names event.now e.id.at) state.now.events }
+{
+    match named_id(event) {
+        Some(named) => state.has_event(named.at),
+        None => false,
+    }
+}
+
 /// Rule 12: a redaction of another's event, by a sender without the level. This is a rule of this server, and none of the
 /// room version.
 pub(crate) fn breaks_redaction(event: &Event, state: &AuthState) -> bool
-    ensures { result ≡ breaks_redaction event.now state.now }
+    ensures { result ≡ breaks_redaction event.now state.now.events }
 {
     event.is_redaction() && !names_own(event, state) && !reaches(redact_level(state), event, state)
 }

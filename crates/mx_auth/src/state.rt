@@ -1,52 +1,61 @@
 //! The state of a room as the rules read it.
-ghost use Rattle.std.specs.Prelude.{◌≡◌, [], ◌∷◌, ◌++◌, ◌==◌, length, option_map, OnOk, OnErr};
+ghost use Rattle.std.specs.Prelude.{◌≡◌, [], ◌∷◌, ◌++◌, ◌==◌, length, drop, option_map, OnOk, OnErr};
+ghost use Rattle.mx_event.specs.Lawful.{placed_event};
 ghost use Rattle.mx_event.specs.Levels.{powers};
 ghost use Rattle.mx_event.specs.State.{creator, join_rule, membership_of};
-ghost use Rattle.mx_auth.specs.Kept.{has_sent};
+ghost use Rattle.mx_auth.specs.Kept.{has_event, has_sent};
+ghost use Rattle.mx_auth.specs.Standing.{no_standing};
 
-use crate::kept::{Count, Kept};
+use crate::kept::{Count, Kept, Waiting};
+use crate::kinds::target;
+use crate::places::any_by;
 use crate::taken::Taken;
 use mx_event::Event;
 use mx_ids::{Memory, Text, UserId};
 use mx_json::Json;
 use std::alloc::Global;
+use std::collections::VecDeque;
 use std::marker::Model;
 
 /// The state of a room after its events, as far as the authorization rules read it. Contracts see it as the list of the
-/// events that it took in; of these it holds what the rules ask alone.
+/// events that it took in, and beside it the list of the events that it has room for; of these it holds what the rules ask
+/// alone.
 #[derive(Drop)]
 pub struct AuthState {
     alloc: Global,
     kept: Kept,
+    /// What is wanted of the events that there is room for, in their order.
+    waiting: VecDeque<Waiting>,
     taken: Taken,
+    room: Taken,
 }
 
 impl Model for AuthState {
-    ghost use Rattle.std.specs.Prelude.{List};
-    ghost use Rattle.std.specs.Coded.{coded_list};
     ghost use Rattle.mx_event.specs.contracts.event.Event.{the_row as event_row};
-    ghost use Rattle.mx_event.specs.declared.event.Event.{Event};
+    ghost use Rattle.mx_auth.specs.Standing.{Standing, standing_code};
 
-    ghost Value = { List Event };
+    ghost Value = { Standing };
 
-    ghost coded = { coded_list event_row.coded };
+    ghost coded = { standing_code event_row.coded };
 
-    ghost use Rattle.mx_auth.specs.Kept.{IsKept};
+    ghost use Rattle.mx_auth.specs.Kept.{IsKept, IsWaiting};
 
-    ghost view = { λ s. s.taken.events };
+    ghost view = { λ s. record { events = s.taken.events; room = s.room.events } };
 
-    ghost invariant = { λ s. IsKept s.kept s.taken.events };
+    ghost invariant = { λ s. IsKept s.kept s.taken.events × IsWaiting s.kept s.waiting.items s.room.events };
 }
 
 impl AuthState {
     /// The state of a room without events. Takes no memory.
     pub fn empty(alloc: Global) -> AuthState
-        ensures { result ≡ [] }
+        ensures { result ≡ no_standing }
     {
         AuthState {
             alloc,
             kept: Kept::new(alloc),
+            waiting: VecDeque::new(alloc),
             taken: Taken::new(),
+            room: Taken::new(),
         }
     }
 
@@ -54,24 +63,59 @@ impl AuthState {
     /// needs is refused: the state is then as it was. The time is logarithmic in the number of events, and linear in the
     /// size of what is copied.
     pub fn take(&mut self, event: &Event) -> Result<(), Memory>
-        ensures ok { OnOk result (self.new ≡ self.old ++ event.now ∷ []) }
+        ensures ok { OnOk result (self.new ≡ record self.old { events = self.old.events ++ event.now ∷ [] }) }
         ensures same { OnErr result (self.new ≡ self.old) }
     {
-        self.kept.take(self.alloc, event)?;
+        let count = self.waiting.len() + 1;
+        let waiting = self.kept.prepare(self.alloc, event, count)?;
+        self.kept.settle(target(event), waiting, event.id.at);
         self.taken = Taken::with(&self.taken, event);
         Ok(())
+    }
+
+    /// Makes room for an event, after those that there is room for already, so that `take_ready` can take it in. `Memory`
+    /// where an allocation that a copy of what it sets needs is refused: the state is then as it was.
+    pub fn make_room(&mut self, event: &Event) -> Result<(), Memory>
+        ensures ok { OnOk result (self.new ≡ record self.old { room = self.old.room ++ event.now ∷ [] }) }
+        ensures same { OnErr result (self.new ≡ self.old) }
+    {
+        let count = self.waiting.len() + 1;
+        let waiting = self.kept.prepare(self.alloc, event, count)?;
+        self.waiting.push_back(waiting)?;
+        self.room = Taken::with(&self.room, event);
+        Ok(())
+    }
+
+    /// Takes in the first of the events that there is room for, as it stands at the position `at` in a block that begins at
+    /// `first`. Takes no memory.
+    pub fn take_ready(&mut self, event: &Event, first: u64, at: u64)
+        requires { self.old.room ≡ event.now ∷ drop 1 self.old.room }
+        ensures { self.new ≡ record { events = self.old.events ++ placed_event event.now first at ∷ []; room = drop 1 self.old.room } }
+    {
+        let waiting = self.waiting.pop_front().unwrap();
+        self.kept.settle(target(event), waiting, at);
+        self.taken = Taken::placed(&self.taken, event, &first, &at);
+        self.room = Taken::rest(&self.room);
+    }
+
+    /// Drops the room that was made. Takes no memory.
+    pub fn drop_room(&mut self)
+        ensures { self.new ≡ record self.old { room = [] } }
+    {
+        self.waiting.clear();
+        self.room = Taken::new();
     }
 
     /// The membership of a user (Client-Server API, m.room.member), or `None` where no member event of the user stands, or
     /// it gives none. Takes no memory.
     pub fn membership(&self, user: &UserId) -> Option<&Text>
-        ensures { option_map (λ t. t.now) result ≡ membership_of user.now self.now }
+        ensures { option_map (λ t. t.now) result ≡ membership_of user.now self.now.events }
     {
         self.membership_of(user.as_str())
     }
 
     pub(crate) fn membership_of(&self, user: &str) -> Option<&Text>
-        ensures { option_map (λ t. t.now) result ≡ membership_of user.now self.now }
+        ensures { option_map (λ t. t.now) result ≡ membership_of user.now self.now.events }
     {
         match self.kept.memberships.get(user) {
             Some(membership) => membership.as_ref(),
@@ -82,45 +126,49 @@ impl AuthState {
     /// The content of the standing power levels (Client-Server API, m.room.power_levels), or `None` where none stand. Takes
     /// no memory.
     pub fn powers(&self) -> Option<&Json>
-        ensures { option_map (λ j. j.now) result ≡ powers self.now }
+        ensures { option_map (λ j. j.now) result ≡ powers self.now.events }
     {
         self.kept.powers.as_ref()
     }
 
     /// Who created the room.
     pub(crate) fn creator(&self) -> Option<&UserId>
-        ensures { option_map (λ u. u.now) result ≡ creator self.now }
+        ensures { option_map (λ u. u.now) result ≡ creator self.now.events }
     {
         self.kept.creator.as_ref()
     }
 
     pub(crate) fn join_rule(&self) -> Option<&Text>
-        ensures { option_map (λ t. t.now) result ≡ join_rule self.now }
+        ensures { option_map (λ t. t.now) result ≡ join_rule self.now.events }
     {
         self.kept.join_rule.as_ref()
     }
 
     /// Whether there is no event.
     pub(crate) fn is_empty(&self) -> bool
-        ensures { result ≡ (length self.now == 0) }
+        ensures { result ≡ (length self.now.events == 0) }
     {
         matches!(self.kept.count, Count::Zero)
     }
 
     /// Whether there is one event alone.
     pub(crate) fn has_one_event(&self) -> bool
-        ensures { result ≡ (length self.now == 1) }
+        ensures { result ≡ (length self.now.events == 1) }
     {
         matches!(self.kept.count, Count::One)
     }
 
-    /// Whether a user sent the event at a position.
+    /// Whether a user sent an event at a position.
     pub(crate) fn has_sent(&self, user: &UserId, at: u64) -> bool
-        ensures { result ≡ has_sent user.now at self.now }
+        ensures { result ≡ has_sent user.now at self.now.events }
     {
-        match self.kept.sent.get(user) {
-            Some(positions) => positions.contains(&at),
-            None => false,
-        }
+        any_by(self.kept.places.at(at), user)
+    }
+
+    /// Whether an event is at a position.
+    pub(crate) fn has_event(&self, at: u64) -> bool
+        ensures { result ≡ has_event at self.now.events }
+    {
+        !self.kept.places.at(at).is_empty()
     }
 }
