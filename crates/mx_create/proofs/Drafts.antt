@@ -29,7 +29,7 @@ one_text (Some x) users = omega arith
 texts_count : (js : List Json) → length (filter_map text_of js) ≡ count_by is_text_value js
 texts_count js = is_count_by (λ l. length (filter_map text_of l)) is_text_value refl (λ j l. one_text (text_of j) (filter_map text_of l)) js
 
-first_count : (by : Creating) (preset : Preset) (ask : Json) → length (first_drafts by preset ask) ≡ 6
+pub first_count : (by : Creating) (preset : Preset) (ask : Json) → length (first_drafts by preset ask) ≡ 6
 unfolding first_drafts rules
 first_count by preset ask = refl
 

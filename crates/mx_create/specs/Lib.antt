@@ -3,3 +3,5 @@ pub mod Bodies
 pub mod Contents
 pub mod Blocks
 pub mod Strangers
+pub mod Admitted
+pub mod Storing

@@ -2,6 +2,7 @@
 ghost use Rattle.std.specs.Prelude.{◌≡◌, ◌⊎◌, ◌++◌, true, ◌≤◌, IfOk, IfErr, OnOk, Ok, Err, [], ◌∷◌, map, length, codes, count_by};
 ghost use Rattle.std.specs.Option.{option_to_list};
 ghost use Rattle.mx_json.specs.Fields.{field, text_at, text_of};
+ghost use Rattle.mx_create.specs.Admitted.{IsBlock};
 ghost use Rattle.mx_create.specs.Blocks.{Creating, block_of, draft, drafts_of, first_drafts, initial, invitation, is_eleven, named, rules};
 ghost use Rattle.mx_create.specs.Bodies.{invited, is_create_body, is_text_value, listed};
 ghost use Rattle.mx_create.specs.Contents.{single};
@@ -34,6 +35,8 @@ const MOST_EVENTS: usize = 256;
 /// `Preset` where `preset` is there and names none; `NoUser` where `invite` or a member event of
 /// `initial_state` invites one who isn't among the users; `TooMany` where there are more than 256
 /// events. `Memory` comes only where the allocator refuses.
+///
+/// The events are 1 to 256 state events of a room without a writer and a position yet, as `admit_block` wants them.
 pub fn block(
     alloc: Global,
     ask: &Json,
@@ -43,6 +46,7 @@ pub fn block(
 ) -> Result<Seq<Draft>, CreateFault>
     requires body { is_create_body ask.now ≡ true }
     ensures found { IfOk result (λ drafts. block_of (record { creator = creator.now; ts = ts }) users.now ask.now ≡ Ok drafts) }
+    ensures block { IfOk result IsBlock }
     ensures refused { IfErr result (λ f. (f ≡ faults.Memory) ⊎ (block_of (record { creator = creator.now; ts = ts }) users.now ask.now ≡ Err f)) }
 {
     if !is_eleven(ask) {

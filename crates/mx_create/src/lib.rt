@@ -1,16 +1,20 @@
 //! The events by which a room is created.
 #![tactic(auto)]
 
+mod admission;
 mod body;
 mod contents;
 mod creation;
 mod fault;
 mod invited;
+mod laws;
 mod preset;
 #[cfg(test)]
 mod tests;
 
+pub use admission::admit_block;
 pub use body::is_create_body;
 pub use creation::block;
 pub use fault::CreateFault;
+pub use laws::block_is_lawful;
 pub use preset::Preset;

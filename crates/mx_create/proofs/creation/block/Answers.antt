@@ -1,5 +1,6 @@
 use Rattle.std.proofs.Common.{◌<◌, ◌≤◌, inr, sym, subst, ◌∙◌}
 use Rattle.mx_create.specs.Blocks.{Creating}
+use Rattle.mx_create.proofs.Admitting.{is_block}
 use Rattle.mx_create.proofs.Outcomes.{found, no_preset, no_user, no_version, too_many}
 use Rattle.mx_create.proofs.creation.block.Goals as goal
 
@@ -29,3 +30,9 @@ returns-clause-found c =
     let by : Creating = record { creator = c.args.creator.now; ts = c.args.ts } in
     let count = c.event_count.ensures by c.in-Some.preset in
     found by c.args.users.now c.args.ask.now c.in-Some.preset _ (sym c.is_eleven.ensures ∙ c.if-not-is_eleven.false) (sym c.in-Some.ensures) (sym c.in_ok-are_known.ensures ∙ c.if-not-branch.false) (subst (λ n. n ≤ 256) count c.if-event_count-gt-MOST_EVENTS.false) c.in_ok-drafts.ensures
+
+pub returns-clause-block : goal.returns-clause-block
+returns-clause-block c =
+    let by : Creating = record { creator = c.args.creator.now; ts = c.args.ts } in
+    let count = c.event_count.ensures by c.in-Some.preset in
+    is_block by c.in-Some.preset c.args.ask.now _ c.in_ok-drafts.ensures (subst (λ n. n ≤ 256) count c.if-event_count-gt-MOST_EVENTS.false)
