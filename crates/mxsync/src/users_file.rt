@@ -7,8 +7,6 @@ ghost use Rattle.mxsync.specs.declared.users_file.UsersFault.{UsersFault};
 
 mod cuts;
 mod name_forms;
-#[cfg(test)]
-mod tests;
 mod user_list;
 
 use cuts::{cut, cut_line};
