@@ -1,13 +1,14 @@
-//! Three writers with the stop 4, a stream that is full from the start, and two threads that write at once.
+//! Three writers with the stop 4, a stream that gets full, and two threads that write at once.
 
 ghost use Rattle.std.specs.Prelude.{◌≡◌, ◌≤◌, [], ◌∷◌, None, IfOk};
-ghost use Rattle.mx_front.specs.Shown.{place_of, place_of_pen, known};
+ghost use Rattle.mx_front.specs.Shown.{place_of, place_of_pen, place_of_pass, known};
 ghost use Rattle.mx_front.specs.Start.{IsNewPen, AreNewPens};
 ghost use Rattle.mx_front.specs.Told.{block_at};
 
-use crate::{Drawn, Full, Pen, Stream, seats_see_one_history, stream};
+use crate::{Drawn, Full, Pass, Pen, Stream, seats_see_one_history, stream};
 use mx_core::Placed;
 use mx_ids::{Copied, Memory, Seq};
+use mx_lanes::Parts;
 use std::alloc::Global;
 use std::process::Abort;
 use std::sync::Wait;
@@ -91,48 +92,35 @@ fn finish_one<R: Wait + Abort>(
     stream.finish(rt, pen, drawn, items)
 }
 
-#[test]
-fn stores_out_of_order_move_the_front(rt: HostRuntime) {
-    let alloc = rt.alloc();
-    let (stream, pens, mut pass) = stream::<Number>(alloc, 3, 4).expect(&rt, "memory");
-    let (mut first, mut second, mut third) = three(&stream, pens);
-    let at_first = draw_one(&rt, &stream, &mut first).expect(&rt, "room");
-    let at_second = draw_one(&rt, &stream, &mut second).expect(&rt, "room");
-    let at_third = draw_one(&rt, &stream, &mut third).expect(&rt, "room");
-    assert_eq!(rt;
-        (at_first.first, at_second.first, at_third.first),
-        (1, 2, 3)
-    );
-    assert_eq!(rt;
-        finish_one(&rt, alloc, &stream, &mut third, at_third, 30),
-        0
-    );
-    let early = stream.look(&rt, alloc, &mut pass).expect(&rt, "memory");
-    assert_eq!(rt; (early.stores(), early.front()), (1, 0));
-    assert_eq!(rt;
-        finish_one(&rt, alloc, &stream, &mut first, at_first, 10),
-        1
-    );
-    assert_eq!(rt;
-        finish_one(&rt, alloc, &stream, &mut second, at_second, 20),
-        3
-    );
-    let late = stream.look(&rt, alloc, &mut pass).expect(&rt, "memory");
-    assert_eq!(rt; (late.stores(), late.front()), (3, 3));
-    assert_eq!(rt; late.at(1).map(|item| item.value), Some(10));
-    assert_eq!(rt; late.at(2).map(|item| item.value), Some(20));
-    assert_eq!(rt; late.at(3).map(|item| item.value), Some(30));
-    let last = draw_one(&rt, &stream, &mut first).expect(&rt, "room");
-    assert_eq!(rt; last.first, 4);
-    assert_eq!(rt; finish_one(&rt, alloc, &stream, &mut first, last, 40), 4);
-    assert_eq!(rt; draw_one(&rt, &stream, &mut first), Err(Full { next: 4 }));
+/// The pen of the first writer.
+fn first_pen(stream: &Stream<Number>, pens: Seq<Pen<Number>>) -> Pen<Number>
+    requires { AreNewPens (place_of stream.now) 3 pens }
+    ensures { IsNewPen (place_of stream.now) 0 result }
+{
+    three(stream, pens).0
 }
 
-#[test]
-fn a_stream_without_positions_is_full(rt: HostRuntime) {
-    let (stream, pens, _pass) = stream::<Number>(rt.alloc(), 3, 0).expect(&rt, "memory");
-    let (mut first, _second, _third) = three(&stream, pens);
-    assert_eq!(rt; draw_one(&rt, &stream, &mut first), Err(Full { next: 0 }));
+/// A look of a pass sees so many stores, and up to the front just these numbers.
+fn expect_items<R: Wait + Abort>(
+    rt: &R,
+    alloc: Global,
+    stream: &Stream<Number>,
+    pass: &mut Pass<Number>,
+    stores: u64,
+    values: &[u64],
+)
+    requires { place_of_pass pass.old ≡ place_of stream.now }
+    ensures { place_of_pass pass.new ≡ place_of_pass pass.old }
+{
+    let parts = stream.look(rt, alloc, pass).expect(rt, "memory");
+    let front = values.len() as u64;
+    assert_eq!(rt; (parts.stores(), parts.front()), (stores, front));
+    let mut position = 1u64;
+    for value in values {
+        let found = parts.at(position).map(|item| item.value);
+        assert_eq!(rt; found, Some(*value), "at {position}");
+        position = position.saturating_add(1);
+    }
 }
 
 /// A pen of a stream with a block of one position.
@@ -157,13 +145,82 @@ fn holding<'a, R: Wait + Abort>(
     Holder { stream, pen, drawn }
 }
 
-fn front_after<R: Wait + Abort>(rt: &R, alloc: Global, holder: Holder<'_>) -> u64 {
+/// The holders of the positions 1, 2 and 3.
+fn three_holding<'a, R: Wait + Abort>(
+    rt: &R,
+    stream: &'a Stream<Number>,
+    pens: Seq<Pen<Number>>,
+) -> (Holder<'a>, Holder<'a>, Holder<'a>)
+    requires { AreNewPens (place_of stream.now) 3 pens }
+{
+    let (first, second, third) = three(stream, pens);
+    let first = holding(rt, stream, first);
+    let second = holding(rt, stream, second);
+    let third = holding(rt, stream, third);
+    assert_eq!(rt;
+        (first.drawn.first, second.drawn.first, third.drawn.first),
+        (1, 2, 3)
+    );
+    (first, second, third)
+}
+
+/// The front after the store of a number.
+fn front_after<R: Wait + Abort>(rt: &R, alloc: Global, holder: Holder<'_>, value: u64) -> u64 {
     let Holder {
         stream,
         mut pen,
         drawn,
     } = holder;
-    finish_one(rt, alloc, stream, &mut pen, drawn, 0)
+    finish_one(rt, alloc, stream, &mut pen, drawn, value)
+}
+
+/// A store above a gap is seen, and leaves the front at 0.
+fn expect_store_ahead<R: Wait + Abort>(
+    rt: &R,
+    alloc: Global,
+    stream: &Stream<Number>,
+    pass: &mut Pass<Number>,
+    third: Holder<'_>,
+)
+    requires { place_of_pass pass.old ≡ place_of stream.now }
+    ensures { place_of_pass pass.new ≡ place_of_pass pass.old }
+{
+    assert_eq!(rt; front_after(rt, alloc, third, 30), 0);
+    expect_items(rt, alloc, stream, pass, 1, &[]);
+}
+
+#[test]
+fn stores_out_of_order_move_the_front(rt: HostRuntime) {
+    let alloc = rt.alloc();
+    let (stream, pens, mut pass) = stream::<Number>(alloc, 3, 4).expect(&rt, "memory");
+    let (first, second, third) = three_holding(&rt, &stream, pens);
+    expect_store_ahead(&rt, alloc, &stream, &mut pass, third);
+    assert_eq!(rt; front_after(&rt, alloc, first, 10), 1);
+    assert_eq!(rt; front_after(&rt, alloc, second, 20), 3);
+    expect_items(&rt, alloc, &stream, &mut pass, 3, &[10, 20, 30]);
+}
+
+/// Draws and stores the one position of a stream, and then finds it full.
+fn expect_one_position<R: Wait + Abort>(
+    rt: &R,
+    alloc: Global,
+    stream: &Stream<Number>,
+    pen: &mut Pen<Number>,
+)
+    requires stream { place_of_pen pen.old ≡ place_of stream.now }
+    requires free { (known pen.old).block ≡ None }
+{
+    let drawn = draw_one(rt, stream, pen).expect(rt, "room");
+    assert_eq!(rt; finish_one(rt, alloc, stream, pen, drawn, 10), 1);
+    assert_eq!(rt; draw_one(rt, stream, pen), Err(Full { next: 1 }));
+}
+
+#[test]
+fn a_stream_is_full_once_its_positions_are_drawn(rt: HostRuntime) {
+    let alloc = rt.alloc();
+    let (stream, pens, _pass) = stream::<Number>(alloc, 3, 1).expect(&rt, "memory");
+    let mut first = first_pen(&stream, pens);
+    expect_one_position(&rt, alloc, &stream, &mut first);
 }
 
 /// The fronts that three stores in this order answer.
@@ -174,18 +231,15 @@ fn fronts<R: Wait + Abort>(
     two: Holder<'_>,
     last: Holder<'_>,
 ) -> (u64, u64, u64) {
-    let first = front_after(rt, alloc, one);
-    let second = front_after(rt, alloc, two);
-    (first, second, front_after(rt, alloc, last))
+    let first = front_after(rt, alloc, one, 0);
+    let second = front_after(rt, alloc, two, 0);
+    (first, second, front_after(rt, alloc, last, 0))
 }
 
 /// The fronts where the pen of one writer stores after the two others.
 fn fronts_with_held<R: Wait + Abort>(rt: &R, alloc: Global, held: u8) -> (u64, u64, u64) {
     let (stream, pens, _pass) = stream::<Number>(alloc, 3, 4).expect(rt, "memory");
-    let (first, second, third) = three(&stream, pens);
-    let first = holding(rt, &stream, first);
-    let second = holding(rt, &stream, second);
-    let third = holding(rt, &stream, third);
+    let (first, second, third) = three_holding(rt, &stream, pens);
     match held {
         0 => fronts(rt, alloc, second, third, first),
         1 => fronts(rt, alloc, first, third, second),
@@ -201,18 +255,33 @@ fn each_pen_in_turn_holds_the_front(rt: HostRuntime) {
     assert_eq!(rt; fronts_with_held(&rt, alloc, 2), (1, 2, 3));
 }
 
+/// A pen stores a number, and a pass sees it by a note.
+fn store_noted<R: Wait + Abort>(
+    rt: &R,
+    alloc: Global,
+    stream: &Stream<Number>,
+    pen: &mut Pen<Number>,
+    pass: &mut Pass<Number>,
+)
+    requires pen { place_of_pen pen.old ≡ place_of stream.now }
+    requires free { (known pen.old).block ≡ None }
+    requires pass { place_of_pass pass.old ≡ place_of stream.now }
+    ensures { place_of_pass pass.new ≡ place_of_pass pass.old }
+{
+    let drawn = draw_one(rt, stream, pen).expect(rt, "room");
+    assert_eq!(rt; finish_one(rt, alloc, stream, pen, drawn, 10), 1);
+    assert!(rt; stream.note(pen, pass).is_ok());
+}
+
 #[test]
 fn passes_meet_and_note(rt: HostRuntime) {
     let alloc = rt.alloc();
     let (stream, pens, mut pass) = stream::<Number>(alloc, 3, 4).expect(&rt, "memory");
-    let (mut first, _second, _third) = three(&stream, pens);
+    let mut first = first_pen(&stream, pens);
     let mut other = stream.pass(&mut pass).expect(&rt, "memory");
-    let drawn = draw_one(&rt, &stream, &mut first).expect(&rt, "room");
-    assert_eq!(rt; finish_one(&rt, alloc, &stream, &mut first, drawn, 10), 1);
-    assert!(rt; stream.note(&mut first, &mut pass).is_ok());
+    store_noted(&rt, alloc, &stream, &mut first, &mut pass);
     stream.meet(&mut other, pass);
-    let parts = stream.look(&rt, alloc, &mut other).expect(&rt, "memory");
-    assert_eq!(rt; (parts.stores(), parts.front()), (1, 1));
+    expect_items(&rt, alloc, &stream, &mut other, 1, &[10]);
 }
 
 /// A pen of a stream without a block.
@@ -249,33 +318,46 @@ fn fifty_each<R: Threads + Wait + Abort + Sync>(
     )
 }
 
+/// The ends of two runs of numbers that are merged into a list, each of which begins as said.
+fn ends_of_runs(merged: &Parts<Number>, one: u64, two: u64) -> (u64, u64) {
+    let mut next = (one, two);
+    for position in 1..=merged.front() {
+        let value = merged.at(position).map(|item| item.value);
+        if value == Some(next.0) {
+            next.0 = next.0.wrapping_add(1);
+        } else if value == Some(next.1) {
+            next.1 = next.1.wrapping_add(1);
+        }
+    }
+    next
+}
+
+/// The first two of three writers store fifty numbers at once.
+fn expect_fifty_each<R: Threads + Wait + Abort + Sync>(
+    rt: &R,
+    alloc: Global,
+    stream: &Stream<Number>,
+    pens: Seq<Pen<Number>>,
+)
+    requires { AreNewPens (place_of stream.now) 3 pens }
+{
+    let (first, second, _third) = three(stream, pens);
+    let one = Writer { stream, pen: first };
+    let two = Writer {
+        stream,
+        pen: second,
+    };
+    assert_eq!(rt; fifty_each(rt, alloc, one, two), (true, true));
+}
+
 #[test]
 fn threads_store_side_by_side(rt: HostRuntime) {
     let alloc = rt.alloc();
     let (stream, pens, mut pass) = stream::<Number>(alloc, 3, 1000).expect(&rt, "memory");
-    let (first, second, _third) = three(&stream, pens);
-    let one = Writer {
-        stream: &stream,
-        pen: first,
-    };
-    let two = Writer {
-        stream: &stream,
-        pen: second,
-    };
-    assert_eq!(rt; fifty_each(&rt, alloc, one, two), (true, true));
+    expect_fifty_each(&rt, alloc, &stream, pens);
     let parts = stream.look(&rt, alloc, &mut pass).expect(&rt, "memory");
     assert_eq!(rt; (parts.stores(), parts.front()), (100, 100));
-    let mut next = (0u64, 1024u64);
-    for position in 1..=100u64 {
-        let value = parts.at(position).map(|item| item.value);
-        if value == Some(next.0) {
-            next.0 = next.0.wrapping_add(1);
-        } else {
-            assert_eq!(rt; value, Some(next.1));
-            next.1 = next.1.wrapping_add(1);
-        }
-    }
-    assert_eq!(rt; next, (50, 1074));
+    assert_eq!(rt; ends_of_runs(&parts, 0, 1024), (50, 1074));
 }
 
 #[test]

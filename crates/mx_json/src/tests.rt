@@ -1,100 +1,112 @@
-use crate::{Json, JsonFault, Member, Members, number_size, read, text_size};
-use mx_ids::{Copied, Memory, Seq, Text};
-use std::alloc::{AllocError, Global};
+use crate::{Json, JsonFault, Members, number_size, read, text_size};
+use mx_ids::{Copied, Text};
+use std::alloc::Global;
+use std::process::Abort;
 
-/// Why a test can't go on.
-#[derive(Debug, Drop)]
-enum Fail {
-    Memory,
-    Fault(JsonFault),
+fn text(rt: &impl Abort, alloc: Global, s: &str) -> Text {
+    Text::from_string(String::from_str(alloc, s).expect(rt, "memory"))
 }
 
-impl From<AllocError> for Fail {
-    fn from(_refused: AllocError) -> Fail {
-        Fail::Memory
-    }
-}
-
-impl From<Memory> for Fail {
-    fn from(_refused: Memory) -> Fail {
-        Fail::Memory
-    }
-}
-
-impl From<JsonFault> for Fail {
-    fn from(fault: JsonFault) -> Fail {
-        Fail::Fault(fault)
-    }
-}
-
-fn text(alloc: Global, s: &str) -> Result<Text, Fail> {
-    Ok(Text::from_string(String::from_str(alloc, s)?))
-}
-
-/// The compact text of the value that a text is.
-fn compact(alloc: Global, s: &str) -> Result<Text, Fail> {
-    let json = read(alloc, s.as_bytes())?;
+/// A value is written as this text, and as long as it says.
+fn expect_written(rt: &impl Abort, alloc: Global, json: &Json, written: &str) {
     let mut out = Text::new(alloc);
-    json.write(alloc, &mut out)?;
-    Ok(out)
+    json.write(alloc, &mut out).expect(rt, "memory");
+    assert_eq!(rt; out.as_str(), written);
+    assert_eq!(rt; json.size(), out.len() as u64);
+}
+
+fn expect_compact(rt: &impl Abort, alloc: Global, s: &str, written: &str) {
+    let json = read(alloc, s.as_bytes()).expect(rt, "a JSON text");
+    expect_written(rt, alloc, &json, written);
 }
 
 #[test]
-fn a_value_is_written_compact(rt: HostRuntime) -> Result<(), Fail> {
-    for (read_from, written) in [
-        ("9007199254740991", "9007199254740991"),
-        ("-9007199254740991", "-9007199254740991"),
-        (" [ null , true,false , 0, -1 ] ", "[null,true,false,0,-1]"),
-        ("[]", "[]"),
-        ("{}", "{}"),
-        (
-            r#"{"b":1,"":[],"a":{"z":2,"é":3}}"#,
-            r#"{"":[],"a":{"z":2,"é":3},"b":1}"#,
-        ),
-        (r#"{"a":1.5,"a":2}"#, r#"{"a":2}"#),
-        (r#""\u0022\\\/\n\t\u0001\u00e9é""#, r#""\"\\/\n\t\u0001éé""#),
-    ] {
-        let out = compact(rt.alloc(), read_from)?;
-        assert_eq!(rt; out.as_str(), written);
-        let json = read(rt.alloc(), read_from.as_bytes())?;
-        assert_eq!(rt; json.size(), out.len() as u64);
+fn a_value_is_written_compact(rt: HostRuntime) {
+    let alloc = rt.alloc();
+    expect_compact(
+        &rt,
+        alloc,
+        "[9007199254740991,-9007199254740991]",
+        "[9007199254740991,-9007199254740991]",
+    );
+    expect_compact(
+        &rt,
+        alloc,
+        " [ null , true,false , 0, -1, [] ,{ } ] ",
+        "[null,true,false,0,-1,[],{}]",
+    );
+    expect_compact(
+        &rt,
+        alloc,
+        r#"{"b":1,"":[],"a":{"z":2,"é":3}}"#,
+        r#"{"":[],"a":{"z":2,"é":3},"b":1}"#,
+    );
+    expect_compact(&rt, alloc, r#"{"a":1.5,"a":2}"#, r#"{"a":2}"#);
+    expect_compact(
+        &rt,
+        alloc,
+        r#""\u0022\\\/\n\t\u0001\u00e9é""#,
+        r#""\"\\/\n\t\u0001éé""#,
+    );
+}
+
+fn expect_refused(rt: &impl Abort, alloc: Global, bytes: &[u8], fault: &JsonFault) {
+    assert!(rt; read(alloc, bytes).err().as_ref() == Some(fault));
+}
+
+fn expect_all_refused(rt: &impl Abort, alloc: Global, texts: &[&str], fault: &JsonFault) {
+    for text in texts {
+        expect_refused(rt, alloc, text.as_bytes(), fault);
     }
-    Ok(())
 }
 
 #[test]
 fn each_refusal_has_its_cause(rt: HostRuntime) {
-    for (bytes, fault) in [
-        (b"".as_slice(), JsonFault::NotJson),
-        (b"{\"a\":".as_slice(), JsonFault::NotJson),
-        (b"1e999".as_slice(), JsonFault::NotJson),
-        (b"\"\\ud800\"".as_slice(), JsonFault::NotJson),
-        (b"\"\xff\"".as_slice(), JsonFault::NotJson),
-        (b"[1] 2".as_slice(), JsonFault::NotJson),
-        (b"{\"a\":1.5}".as_slice(), JsonFault::Fraction),
-        (b"[9007199254740992,1e2]".as_slice(), JsonFault::Fraction),
-        (b"-0".as_slice(), JsonFault::Fraction),
-        (b"18446744073709551616".as_slice(), JsonFault::Fraction),
-        (b"18446744073709551615".as_slice(), JsonFault::IntegerRange),
-        (
-            b"{\"a\":9007199254740992}".as_slice(),
-            JsonFault::IntegerRange,
-        ),
-        (b"-9007199254740992".as_slice(), JsonFault::IntegerRange),
-    ] {
-        assert!(rt; read(rt.alloc(), bytes).err() == Some(fault));
-    }
+    let alloc = rt.alloc();
+    expect_refused(&rt, alloc, b"\"\xff\"", &JsonFault::NotJson);
+    expect_all_refused(
+        &rt,
+        alloc,
+        &["", r#"{"a":"#, "1e999", r#""\ud800""#, "[1] 2"],
+        &JsonFault::NotJson,
+    );
+    expect_all_refused(
+        &rt,
+        alloc,
+        &[
+            r#"{"a":1.5}"#,
+            "[9007199254740992,1e2]",
+            "-0",
+            "18446744073709551616",
+        ],
+        &JsonFault::Fraction,
+    );
+    expect_all_refused(
+        &rt,
+        alloc,
+        &[
+            "18446744073709551615",
+            r#"{"a":9007199254740992}"#,
+            "-9007199254740992",
+        ],
+        &JsonFault::IntegerRange,
+    );
 }
 
-fn nested(alloc: Global, depth: usize) -> Result<String, AllocError> {
+/// Whether lists that nest so deep are read.
+fn is_nesting_read(rt: &impl Abort, alloc: Global, depth: usize) -> bool {
     let mut s = String::new(alloc);
     for _ in 0..depth {
-        s.push('[')?;
+        s.push('[').expect(rt, "memory");
     }
+    close(rt, &mut s, depth);
+    read(alloc, s.as_bytes()).is_ok()
+}
+
+fn close(rt: &impl Abort, s: &mut String, depth: usize) {
     for _ in 0..depth {
-        s.push(']')?;
+        s.push(']').expect(rt, "memory");
     }
-    Ok(s)
 }
 
 #[test]
@@ -105,42 +117,55 @@ fn texts_and_numbers_are_measured(rt: HostRuntime) {
 }
 
 #[test]
-fn nesting_ends_at_127(rt: HostRuntime) -> Result<(), Fail> {
-    let deepest = nested(rt.alloc(), 127)?;
-    assert!(rt; read(rt.alloc(), deepest.as_bytes()).is_ok());
-    let deeper = nested(rt.alloc(), 128)?;
-    assert!(rt; read(rt.alloc(), deeper.as_bytes()).err() == Some(JsonFault::NotJson));
-    Ok(())
+fn nesting_ends_at_127(rt: HostRuntime) {
+    assert!(rt; is_nesting_read(&rt, rt.alloc(), 127));
+    assert!(rt; !is_nesting_read(&rt, rt.alloc(), 128));
 }
 
-#[test]
-fn a_value_is_built_and_copied(rt: HostRuntime) -> Result<(), Fail> {
-    let alloc = rt.alloc();
+/// A copy of an object with one member.
+fn copy_of_one(rt: &impl Abort, alloc: Global, key: &str, s: &str) -> Json {
     let mut members = Members::new(alloc);
-    members.push(text(alloc, "body")?, Json::Text(text(alloc, "hi")?))?;
-    let copy = Json::Object(members.copy(alloc)?).copy(alloc)?;
-    if let Json::Object(members) = &copy {
-        assert_eq!(rt; members.len(), 1);
-        assert!(rt; matches!(members.get("body"), Some(Json::Text(_))));
-        assert!(rt; members.get("msgtype").is_none());
-    }
-    let mut out = text(alloc, "content=")?;
-    copy.write(alloc, &mut out)?;
-    assert_eq!(rt; out.as_str(), r#"content={"body":"hi"}"#);
-    Ok(())
+    let value = Json::Text(text(rt, alloc, s));
+    members
+        .push(text(rt, alloc, key), value)
+        .expect(rt, "memory");
+    let copy = members.copy(alloc).expect(rt, "memory");
+    Json::Object(copy).copy(alloc).expect(rt, "memory")
 }
 
 #[test]
-fn members_that_are_set_stand_in_order(rt: HostRuntime) -> Result<(), Fail> {
-    let mut members = Members::new(rt.alloc());
-    for (key, number) in [("b", 1), ("a", 2), ("c", 3), ("b", 4)] {
-        members.set(text(rt.alloc(), key)?, Json::Int(number))?;
-    }
-    let object = Json::Object(members);
-    let mut out = Text::new(rt.alloc());
-    object.write(rt.alloc(), &mut out)?;
-    assert_eq!(rt; out.as_str(), r#"{"a":2,"b":4,"c":3}"#);
+fn a_value_is_built_and_copied(rt: HostRuntime) {
+    let copy = copy_of_one(&rt, rt.alloc(), "body", "hi");
+    let members = copy.as_object().expect(&rt, "an object");
+    assert_eq!(rt; members.len(), 1);
+    assert!(rt;
+        members
+            .get("body")
+            .is_some_and(|body| body.as_text().is_some())
+    );
+    assert!(rt; members.get("msgtype").is_none());
+    expect_written(&rt, rt.alloc(), &copy, r#"{"body":"hi"}"#);
+}
+
+fn set(rt: &impl Abort, alloc: Global, members: &mut Members<Json>, key: &str, number: i64) {
+    members
+        .set(text(rt, alloc, key), Json::Int(number))
+        .expect(rt, "memory");
+}
+
+fn object_of_three(rt: &impl Abort, alloc: Global) -> Json {
+    let mut members = Members::new(alloc);
+    set(rt, alloc, &mut members, "b", 1);
+    set(rt, alloc, &mut members, "a", 2);
+    set(rt, alloc, &mut members, "c", 3);
+    set(rt, alloc, &mut members, "b", 4);
+    Json::Object(members)
+}
+
+#[test]
+fn members_that_are_set_stand_in_order(rt: HostRuntime) {
+    let object = object_of_three(&rt, rt.alloc());
+    expect_written(&rt, rt.alloc(), &object, r#"{"a":2,"b":4,"c":3}"#);
     assert_eq!(rt; object.int_at("b"), Some(4));
     assert_eq!(rt; object.int_at("d"), None);
-    Ok(())
 }

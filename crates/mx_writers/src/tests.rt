@@ -11,6 +11,7 @@ use crate::{
 };
 use mx_front::{Pass, Pen, Stream, stream};
 use mx_ids::{Memory, Seq};
+use mx_lanes::Parts;
 use std::alloc::Global;
 use std::process::Abort;
 use std::sync::{Mutex, Wait};
@@ -61,69 +62,103 @@ fn first_shard(
     Ok(shard(0, 0, numbers(alloc, 0)?, pen))
 }
 
+/// A look of a pass sees just these numbers in this order, each in a store of its own.
+fn expect_items<R: Wait + Abort>(
+    rt: &R,
+    alloc: Global,
+    stream: &Stream<Number>,
+    pass: &mut Pass<Number>,
+    values: &[u64],
+)
+    requires { place_of_pass pass.old ≡ place_of stream.now }
+{
+    let parts = stream.look(rt, alloc, pass).expect(rt, "memory");
+    let count = values.len() as u64;
+    assert_eq!(rt; (parts.stores(), parts.front()), (count, count));
+    let mut position = 1u64;
+    for value in values {
+        let found = parts.at(position).map(|item| item.value);
+        assert_eq!(rt; found, Some(*value), "at {position}");
+        position = position.saturating_add(1);
+    }
+}
+
+fn expect_write_in<R: Wait + Abort>(
+    rt: &R,
+    alloc: Global,
+    stream: &Stream<Number>,
+    shard: &mut Shard<Numbers>,
+    draft: u64,
+    answer: Result<Written, Refused<Zero>>,
+)
+    requires { place_of_pen shard.old.pen ≡ place_of stream.now }
+    ensures { place_of_pen shard.new.pen ≡ place_of_pen shard.old.pen }
+{
+    assert_eq!(rt; write_in(rt, alloc, stream, shard, draft, &Open), answer);
+}
+
+fn expect_own_stores<R: Wait + Abort>(
+    rt: &R,
+    alloc: Global,
+    stream: &Stream<Number>,
+    first: &mut Shard<Numbers>,
+)
+    requires { place_of_pen first.old.pen ≡ place_of stream.now }
+{
+    expect_write_in(rt, alloc, stream, first, 5, stored(1, 0, 1));
+    expect_write_in(rt, alloc, stream, first, 0, Err(Refused::Fault(Zero, 1)));
+    expect_write_in(rt, alloc, stream, first, 7, stored(2, 1, 2));
+}
+
 #[test]
 fn a_writer_decides_on_its_own_stores(rt: HostRuntime) {
     let alloc = rt.alloc();
     let (stream, pens, mut pass) = stream::<Number>(alloc, 2, 10).expect(&rt, "memory");
     let mut first = first_shard(alloc, &stream, pens).expect(&rt, "memory");
-    assert_eq!(rt;
-        write_in(&rt, alloc, &stream, &mut first, 5, &Open),
-        stored(1, 0, 1)
-    );
-    assert_eq!(rt;
-        write_in(&rt, alloc, &stream, &mut first, 0, &Open),
-        Err(Refused::Fault(Zero, 1))
-    );
-    assert_eq!(rt;
-        write_in(&rt, alloc, &stream, &mut first, 7, &Open),
-        stored(2, 1, 2)
-    );
-    let parts = stream.look(&rt, alloc, &mut pass).expect(&rt, "memory");
-    assert_eq!(rt; parts.stores(), 2);
-    assert_eq!(rt; parts.at(1).map(|item| item.value), Some(5));
-    assert_eq!(rt; parts.at(2).map(|item| item.value), Some(7));
+    expect_own_stores(&rt, alloc, &stream, &mut first);
+    expect_items(&rt, alloc, &stream, &mut pass, &[5, 7]);
+}
+
+fn expect_write<R: Wait + Abort>(
+    rt: &R,
+    alloc: Global,
+    writers: &Writers<Numbers>,
+    pass: &mut Pass<Number>,
+    writer: u8,
+    draft: u64,
+    answer: Result<Written, Refused<Zero>>,
+)
+    requires writer { writer < writers_of writers.now.stream }
+    requires pass { place_of_pass pass.old ≡ place_of writers.now.stream }
+    ensures { place_of_pass pass.new ≡ place_of_pass pass.old }
+{
+    let written = writers.write_seen(rt, alloc, writer, draft, &Open, pass);
+    assert_eq!(rt; written, answer);
+}
+
+fn expect_turns<R: Wait + Abort>(
+    rt: &R,
+    alloc: Global,
+    writers: &Writers<Numbers>,
+    pass: &mut Pass<Number>,
+)
+    requires writers { writers_of writers.now.stream ≡ 2 }
+    requires pass { place_of_pass pass.old ≡ place_of writers.now.stream }
+    ensures { place_of_pass pass.new ≡ place_of_pass pass.old }
+{
+    expect_write(rt, alloc, writers, pass, 0, 10, stored(1, 0, 1));
+    expect_write(rt, alloc, writers, pass, 1, 20, stored(2, 0, 2));
+    expect_write(rt, alloc, writers, pass, 0, 30, stored(3, 1, 3));
+    expect_write(rt, alloc, writers, pass, 0, 0, Err(Refused::Fault(Zero, 2)));
+    expect_write(rt, alloc, writers, pass, 1, 40, Err(Refused::Full(3, 1)));
 }
 
 #[test]
-fn a_full_stream_tells_its_number_and_the_lane(rt: HostRuntime) {
-    let alloc = rt.alloc();
-    let (writers, mut pass) = two(alloc, 0).expect(&rt, "memory");
-    assert_eq!(rt;
-        writers.write_seen(&rt, alloc, 0, 5, &Open, &mut pass),
-        Err(Refused::Full(0, 0))
-    );
-}
-
-#[test]
-fn two_writers_write_in_turn(rt: HostRuntime) {
+fn two_writers_write_in_turn_until_the_stream_is_full(rt: HostRuntime) {
     let alloc = rt.alloc();
     let (writers, mut pass) = two(alloc, 3).expect(&rt, "memory");
-    assert_eq!(rt;
-        writers.write_seen(&rt, alloc, 0, 10, &Open, &mut pass),
-        stored(1, 0, 1)
-    );
-    assert_eq!(rt;
-        writers.write_seen(&rt, alloc, 1, 20, &Open, &mut pass),
-        stored(2, 0, 2)
-    );
-    assert_eq!(rt;
-        writers.write_seen(&rt, alloc, 0, 30, &Open, &mut pass),
-        stored(3, 1, 3)
-    );
-    assert_eq!(rt;
-        writers.write_seen(&rt, alloc, 0, 0, &Open, &mut pass),
-        Err(Refused::Fault(Zero, 2))
-    );
-    assert_eq!(rt;
-        writers.write_seen(&rt, alloc, 1, 40, &Open, &mut pass),
-        Err(Refused::Full(3, 1))
-    );
-    let parts = writers
-        .stream()
-        .look(&rt, alloc, &mut pass)
-        .expect(&rt, "memory");
-    assert_eq!(rt; (parts.stores(), parts.front()), (3, 3));
-    assert_eq!(rt; parts.at(3).map(|item| item.value), Some(30));
+    expect_turns(&rt, alloc, &writers, &mut pass);
+    expect_items(&rt, alloc, writers.stream(), &mut pass, &[10, 20, 30]);
 }
 
 /// The second writer and a pass of its own.
@@ -176,28 +211,33 @@ fn first_at_gate<R: Wait>(
     writers.write_seen(rt, alloc, 0, 10, &gate, pass)
 }
 
+fn expect_second_between<R: Wait + Abort>(
+    rt: &R,
+    alloc: Global,
+    writers: &Writers<Numbers>,
+    pass: &mut Pass<Number>,
+)
+    requires writers { writers_of writers.now.stream ≡ 2 }
+    requires pass { place_of_pass pass.old ≡ place_of writers.now.stream }
+    ensures { place_of_pass pass.new ≡ place_of_pass pass.old }
+{
+    let other = writers.stream().pass(pass).expect(rt, "memory");
+    let party = Mutex::new(Some(Party {
+        writers,
+        pass: other,
+    }));
+    let answer = Mutex::new(None);
+    let written = first_at_gate(rt, alloc, writers, &party, &answer, pass);
+    assert_eq!(rt; written, stored(1, 0, 2));
+    assert_eq!(rt; *answer.lock(rt), stored(2, 0, 0).ok());
+}
+
 #[test]
 fn a_held_block_holds_the_front(rt: HostRuntime) {
     let alloc = rt.alloc();
     let (writers, mut pass) = two(alloc, 10).expect(&rt, "memory");
-    let other = writers.stream().pass(&mut pass).expect(&rt, "memory");
-    let party = Mutex::new(Some(Party {
-        writers: &writers,
-        pass: other,
-    }));
-    let answer = Mutex::new(None);
-    assert_eq!(rt;
-        first_at_gate(&rt, alloc, &writers, &party, &answer, &mut pass),
-        stored(1, 0, 2)
-    );
-    assert_eq!(rt; *answer.lock(&rt), stored(2, 0, 0).ok());
-    let parts = writers
-        .stream()
-        .look(&rt, alloc, &mut pass)
-        .expect(&rt, "memory");
-    assert_eq!(rt; (parts.stores(), parts.front()), (2, 2));
-    assert_eq!(rt; parts.at(1).map(|item| item.value), Some(10));
-    assert_eq!(rt; parts.at(2).map(|item| item.value), Some(20));
+    expect_second_between(&rt, alloc, &writers, &mut pass);
+    expect_items(&rt, alloc, writers.stream(), &mut pass, &[10, 20]);
 }
 
 /// Writes fifty numbers from `from` on, each by one more own store.
@@ -227,33 +267,51 @@ fn fifty_each<R: Threads + Wait + Sync>(
     )
 }
 
+/// Both writers write fifty numbers at once.
+fn expect_fifty_each<R: Threads + Wait + Sync + Abort>(
+    rt: &R,
+    alloc: Global,
+    writers: &Writers<Numbers>,
+    pass: &mut Pass<Number>,
+)
+    requires writers { writers_of writers.now.stream ≡ 2 }
+    requires pass { place_of_pass pass.old ≡ place_of writers.now.stream }
+    ensures { place_of_pass pass.new ≡ place_of_pass pass.old }
+{
+    let one = Party {
+        writers,
+        pass: writers.stream().pass(pass).expect(rt, "memory"),
+    };
+    let two = Party {
+        writers,
+        pass: writers.stream().pass(pass).expect(rt, "memory"),
+    };
+    assert_eq!(rt; fifty_each(rt, alloc, one, two), (true, true));
+}
+
+/// The ends of two runs of numbers that are merged into a list, each of which begins as said.
+fn ends_of_runs(merged: &Parts<Number>, one: u64, two: u64) -> (u64, u64) {
+    let mut next = (one, two);
+    for position in 1..=merged.front() {
+        let value = merged.at(position).map(|item| item.value);
+        if value == Some(next.0) {
+            next.0 = next.0.wrapping_add(1);
+        } else if value == Some(next.1) {
+            next.1 = next.1.wrapping_add(1);
+        }
+    }
+    next
+}
+
 #[test]
 fn own_lists_are_the_same_whatever_the_schedule(rt: HostRuntime) {
     let alloc = rt.alloc();
     let (writers, mut pass) = two(alloc, 1000).expect(&rt, "memory");
-    let one = Party {
-        writers: &writers,
-        pass: writers.stream().pass(&mut pass).expect(&rt, "memory"),
-    };
-    let other = Party {
-        writers: &writers,
-        pass: writers.stream().pass(&mut pass).expect(&rt, "memory"),
-    };
-    assert_eq!(rt; fifty_each(&rt, alloc, one, other), (true, true));
+    expect_fifty_each(&rt, alloc, &writers, &mut pass);
     let parts = writers
         .stream()
         .look(&rt, alloc, &mut pass)
         .expect(&rt, "memory");
     assert_eq!(rt; (parts.stores(), parts.front()), (100, 100));
-    let mut next = (1024u64, 2048u64);
-    for position in 1..=100u64 {
-        let value = parts.at(position).map(|item| item.value);
-        if value == Some(next.0) {
-            next.0 = next.0.wrapping_add(1);
-        } else {
-            assert_eq!(rt; value, Some(next.1));
-            next.1 = next.1.wrapping_add(1);
-        }
-    }
-    assert_eq!(rt; next, (1074, 2098));
+    assert_eq!(rt; ends_of_runs(&parts, 1024, 2048), (1074, 2098));
 }
