@@ -52,16 +52,15 @@ pub(super) fn is_localpart(text: &str) -> bool
 fn all_localpart_bytes(bytes: &[u8]) -> bool
     ensures { result ≡ list_all forms.is_localpart_byte bytes.now }
 {
-    bytes.iter().all(|byte| {
-        byte.is_ascii_lowercase()
-            || byte.is_ascii_digit()
-            || *byte == b'.'
-            || *byte == b'_'
-            || *byte == b'='
-            || *byte == b'-'
-            || *byte == b'/'
-            || *byte == b'+'
-    })
+    bytes.iter().all(|byte| is_localpart_byte(*byte))
+}
+
+fn is_localpart_byte(byte: u8) -> bool
+    ensures { result ≡ forms.is_localpart_byte byte }
+{
+    byte.is_ascii_lowercase()
+        || byte.is_ascii_digit()
+        || matches!(byte, b'.' | b'_' | b'=' | b'-' | b'/' | b'+')
 }
 
 /// Whether a text is a device id: 1 to 64 letters, digits, `_` and `-`.
