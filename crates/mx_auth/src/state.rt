@@ -60,8 +60,8 @@ impl AuthState {
     }
 
     /// Takes an event in, after those that were taken in before it. `Memory` where an allocation that a copy of what it sets
-    /// needs is refused: the state is then as it was. The time is logarithmic in the number of events, and linear in the
-    /// size of what is copied.
+    /// needs is refused: the state is then as it was. The time is linear in the size of what is copied, and logarithmic in
+    /// the number of events where positions rise, as they do in a room.
     pub fn take(&mut self, event: &Event) -> Result<(), Memory>
         ensures ok { OnOk result (self.new ≡ record self.old { events = self.old.events ++ event.now ∷ [] }) }
         ensures same { OnErr result (self.new ≡ self.old) }
