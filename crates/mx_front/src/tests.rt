@@ -216,6 +216,13 @@ fn expect_one_position<R: Wait + Abort>(
 }
 
 #[test]
+fn a_stream_without_positions_is_full(rt: HostRuntime) {
+    let (stream, pens, _pass) = stream::<Number>(rt.alloc(), 3, 0).expect(&rt, "memory");
+    let mut first = first_pen(&stream, pens);
+    assert_eq!(rt; draw_one(&rt, &stream, &mut first), Err(Full { next: 0 }));
+}
+
+#[test]
 fn a_stream_is_full_once_its_positions_are_drawn(rt: HostRuntime) {
     let alloc = rt.alloc();
     let (stream, pens, _pass) = stream::<Number>(alloc, 3, 1).expect(&rt, "memory");

@@ -154,6 +154,14 @@ fn expect_turns<R: Wait + Abort>(
 }
 
 #[test]
+fn a_stream_without_positions_is_full(rt: HostRuntime) {
+    let alloc = rt.alloc();
+    let (writers, mut pass) = two(alloc, 0).expect(&rt, "memory");
+    let full = Err(Refused::Full(0, 0));
+    expect_write(&rt, alloc, &writers, &mut pass, 0, 10, full);
+}
+
+#[test]
 fn two_writers_write_in_turn_until_the_stream_is_full(rt: HostRuntime) {
     let alloc = rt.alloc();
     let (writers, mut pass) = two(alloc, 3).expect(&rt, "memory");
