@@ -27,6 +27,3 @@ pub use mem_source::MemSource;
 pub use sink::{Put, Sink};
 pub use source::{Source, Took};
 pub use streams::{Reading, StdErr, StdIn, StdOut, Writing};
-
-#[cfg(test)]
-mod tests;

@@ -1,5 +1,5 @@
 //! Each form in memory and each adapter once, through its trait.
-use crate::{
+use mx_outside::{
     FileFault, Files, HostFiles, MemFile, MemFiles, MemSink, MemSource, Put, Reading, Sink, Source,
     StdErr, StdOut, Took, Writing,
 };

@@ -1,11 +1,9 @@
-use crate::{Json, JsonFault, Members, number_size, read, text_size};
+//! JSON values as they are read, built and written.
+use crate::make::{json, text};
 use mx_ids::{Copied, Text};
+use mx_json::{Json, JsonFault, Members, number_size, read, text_size};
 use std::alloc::Global;
 use std::process::Abort;
-
-fn text(rt: &impl Abort, alloc: Global, s: &str) -> Text {
-    Text::from_string(String::from_str(alloc, s).expect(rt, "memory"))
-}
 
 /// A value is written as this text, and as long as it says.
 fn expect_written(rt: &impl Abort, alloc: Global, json: &Json, written: &str) {
@@ -16,8 +14,7 @@ fn expect_written(rt: &impl Abort, alloc: Global, json: &Json, written: &str) {
 }
 
 fn expect_compact(rt: &impl Abort, alloc: Global, s: &str, written: &str) {
-    let json = read(alloc, s.as_bytes()).expect(rt, "a JSON text");
-    expect_written(rt, alloc, &json, written);
+    expect_written(rt, alloc, &json(rt, alloc, s), written);
 }
 
 #[test]

@@ -1,23 +1,14 @@
-use crate::copied::Copied;
-use crate::event_id::{EventId, event_id_text_is_injective, read_event_id, write_event_id};
-use crate::memory::Memory;
-use crate::page_token::{PageToken, page_text_is_injective, read_page_token, write_page_token};
-use crate::room_id::{RoomId, read_room_id, room_id_text_is_injective, write_room_id};
-use crate::seq::Seq;
-use crate::sync_token::{
-    SyncToken, TokenFault, read_sync_token, sync_text_is_injective, write_sync_token,
+//! Texts, lists, ids and tokens.
+use crate::make::{text, user};
+use mx_ids::{
+    Copied, EventId, Memory, PageToken, RoomId, Seq, SyncToken, Text, TokenFault,
+    event_id_text_is_injective, is_user_id, page_text_is_injective, read_event_id, read_page_token,
+    read_room_id, read_sync_token, room_id_text_is_injective, sync_text_is_injective, user_id,
+    write_event_id, write_page_token, write_room_id, write_sync_token,
 };
-use crate::text::Text;
-use crate::user::{UserId, is_user_id, user_id};
 use std::alloc::Global;
 use std::process::Abort;
 use std::test::Fail;
-
-fn text_of(alloc: Global, bytes: &str) -> Result<Text, Memory> {
-    let mut text = Text::new(alloc);
-    text.push_str(bytes)?;
-    Ok(text)
-}
 
 fn expect_fault(rt: &impl Abort, text: &str, fault: TokenFault) {
     assert_eq!(rt; read_sync_token(text), Err(fault));
@@ -48,7 +39,7 @@ fn a_sync_token_is_written_and_read_back(rt: HostRuntime) -> Result<(), Fail> {
         d: 7,
         b: 18,
     };
-    let mut out = text_of(rt.alloc(), "next_batch=")?;
+    let mut out = text(&rt, rt.alloc(), "next_batch=");
     write_sync_token(rt.alloc(), &token, &mut out)?;
     assert!(rt; out.as_str() == "next_batch=s281474976710655_0_10_7_18");
     assert_eq!(rt; read_sync_token("s281474976710655_0_10_7_18"), Ok(token));
@@ -75,7 +66,7 @@ fn a_text_that_is_no_page_token_gets_its_fault(rt: HostRuntime) {
 #[test]
 fn a_page_token_is_written_and_read_back(rt: HostRuntime) -> Result<(), Fail> {
     let token = PageToken { at: 8, e: 18 };
-    let mut out = text_of(rt.alloc(), "from=")?;
+    let mut out = text(&rt, rt.alloc(), "from=");
     write_page_token(rt.alloc(), &token, &mut out)?;
     assert!(rt; out.as_str() == "from=p8_18");
     assert_eq!(rt; read_page_token("p8_18"), Ok(token));
@@ -103,7 +94,7 @@ fn a_text_of_another_form_is_no_room_id(rt: HostRuntime) {
 #[test]
 fn a_room_id_is_written_and_read_back(rt: HostRuntime) -> Result<(), Fail> {
     let room = RoomId { writer: 0, at: 1 };
-    let mut out = text_of(rt.alloc(), "/rooms/")?;
+    let mut out = text(&rt, rt.alloc(), "/rooms/");
     write_room_id(rt.alloc(), &room, "example.org", &mut out)?;
     assert!(rt; out.as_str() == "/rooms/!0-1:example.org");
     assert_eq!(rt; read_room_id("!0-1:example.org", "example.org"), Some(room));
@@ -128,7 +119,7 @@ fn a_text_of_another_form_is_no_event_id(rt: HostRuntime) {
 #[test]
 fn an_event_id_is_written_and_read_back(rt: HostRuntime) -> Result<(), Fail> {
     let event = EventId { at: 7 };
-    let mut out = text_of(rt.alloc(), "/event/")?;
+    let mut out = text(&rt, rt.alloc(), "/event/");
     write_event_id(rt.alloc(), &event, "example.org", &mut out)?;
     assert!(rt; out.as_str() == "/event/$7:example.org");
     assert_eq!(rt; read_event_id("$7:example.org", "example.org"), Some(event));
@@ -141,21 +132,21 @@ fn an_event_id_is_written_and_read_back(rt: HostRuntime) -> Result<(), Fail> {
 }
 
 /// A user id of so many bytes more than `@:example.org`.
-fn long_user(alloc: Global, more: u64) -> Result<Text, Memory> {
-    let mut text = text_of(alloc, "@")?;
+fn long_user(rt: &impl Abort, alloc: Global, more: u64) -> Text {
+    let mut id = text(rt, alloc, "@");
     for _ in 0..more {
-        text.push_str("a")?;
+        id.push_str("a").expect(rt, "memory");
     }
-    text.push_str(":example.org")?;
-    Ok(text)
+    id.push_str(":example.org").expect(rt, "memory");
+    id
 }
 
 #[test]
 fn a_user_id_has_at_most_255_bytes(rt: HostRuntime) -> Result<(), Fail> {
-    let longest = user_id(long_user(rt.alloc(), 242)?).ok_or("refused at 255 bytes")?;
+    let longest = user_id(long_user(&rt, rt.alloc(), 242)).ok_or("refused at 255 bytes")?;
     assert_eq!(rt; longest.as_str().len(), 255);
     assert!(rt; longest.server() == "example.org");
-    assert!(rt; !is_user_id(long_user(rt.alloc(), 243)?.as_str()));
+    assert!(rt; !is_user_id(long_user(&rt, rt.alloc(), 243).as_str()));
     Ok(())
 }
 
@@ -172,8 +163,7 @@ fn a_text_of_another_form_is_no_user_id(rt: HostRuntime) {
 /// Whether a list of a text and of none is copied as it is.
 fn are_names_copied(rt: &impl Abort, alloc: Global) -> bool {
     let mut names = Seq::new(alloc);
-    let text = text_of(alloc, "b").expect(rt, "memory");
-    names.push(Some(text)).expect(rt, "memory");
+    names.push(Some(text(rt, alloc, "b"))).expect(rt, "memory");
     names.push(None).expect(rt, "memory");
     let copy = names.copy(alloc).expect(rt, "memory");
     copy.len() == 2 && copy.as_slice() == names.as_slice()
@@ -185,10 +175,6 @@ fn are_bytes_copied(rt: &impl Abort, alloc: Global) -> bool {
     bytes.extend_from_slice(b"ab").expect(rt, "memory");
     let copy = bytes.copy(alloc).expect(rt, "memory").into_vec();
     copy.as_slice() == b"ab".as_slice() && bytes.get(2).is_none() && !bytes.is_empty()
-}
-
-fn user(rt: &impl Abort, alloc: Global, id: &str) -> UserId {
-    user_id(text_of(alloc, id).expect(rt, "memory")).expect(rt, "a user id")
 }
 
 /// Whether a user id is copied as it is.

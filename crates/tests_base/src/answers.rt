@@ -1,17 +1,13 @@
 //! The bytes of answers, and the names and values of queries.
-use crate::{Answer, Body, query, write_answer};
+use crate::make::{json, text};
+use mx_http::{Answer, Body, query, write_answer};
 use mx_ids::Text;
-use mx_json::{Json, read};
 use mx_outside::MemSink;
 use std::alloc::{AllocError, Global};
 use std::process::Abort;
 
 const HEADERS: &str =
     "Access-Control-Allow-Origin: *\r\nAccess-Control-Allow-Methods: GET, POST, PUT, DELETE, OPTIONS\r\nAccess-Control-Allow-Headers: X-Requested-With, Content-Type, Authorization\r\n";
-
-fn json(rt: &impl Abort, alloc: Global, body: &[u8]) -> Json {
-    read(alloc, body).expect(rt, "a JSON text")
-}
 
 /// The text of an answer: its status line, its length, the other headers, and what ends it.
 fn answer_text(alloc: Global, parts: [&str; 3]) -> Result<String, AllocError> {
@@ -40,7 +36,7 @@ fn expect(
 fn expect_empty(rt: &impl Abort, alloc: Global, head_only: bool, close: bool, end: &str) {
     let answer = Answer {
         status: 200,
-        body: Body::Json(json(rt, alloc, b"{}")),
+        body: Body::Json(json(rt, alloc, "{}")),
     };
     expect(rt, alloc, &answer, head_only, close, ["200 OK", "2", end]);
 }
@@ -49,7 +45,7 @@ fn expect_empty(rt: &impl Abort, alloc: Global, head_only: bool, close: bool, en
 fn expect_json(rt: &impl Abort, alloc: Global, status: u16, body: &str, parts: [&str; 3]) {
     let answer = Answer {
         status,
-        body: Body::Json(json(rt, alloc, body.as_bytes())),
+        body: Body::Json(json(rt, alloc, body)),
     };
     expect(rt, alloc, &answer, false, false, parts);
 }
@@ -99,12 +95,13 @@ fn a_body_is_the_compact_text_of_its_value(rt: HostRuntime) {
 }
 
 /// A text of 5,000 bytes between quotes, more than the stage holds.
-fn long_text(rt: &impl Abort, alloc: Global) -> Vec<u8> {
-    let mut text = Vec::new(alloc);
-    text.push(b'"').expect(rt, "memory");
-    text.resize(5001, b'x').expect(rt, "memory");
-    text.push(b'"').expect(rt, "memory");
-    text
+fn long_text(rt: &impl Abort, alloc: Global) -> Text {
+    let mut long = text(rt, alloc, "\"");
+    for _ in 0..5000u32 {
+        long.push_str("x").expect(rt, "memory");
+    }
+    long.push_str("\"").expect(rt, "memory");
+    long
 }
 
 /// How many bytes of a long answer are written to a sink whose calls of these numbers fail: all, or a front in the error.
@@ -113,7 +110,7 @@ fn put_count(rt: &impl Abort, alloc: Global, failing: &[u64]) -> Result<usize, u
     let mut sink = MemSink::new(alloc, failing);
     let answer = Answer {
         status: 200,
-        body: Body::Json(json(rt, alloc, long_text(rt, alloc).as_slice())),
+        body: Body::Json(json(rt, alloc, long_text(rt, alloc).as_str())),
     };
     match write_answer(&mut sink, &answer, false, false) {
         Ok(()) => Ok(sink.written().len()),
@@ -132,7 +129,7 @@ fn a_large_body_takes_several_puts(rt: HostRuntime) {
 
 /// The names and values of a target's query, a line for each.
 fn pairs(rt: &impl Abort, alloc: Global, target: &str) -> Text {
-    let target = Text::from_string(String::from_str(alloc, target).expect(rt, "memory"));
+    let target = text(rt, alloc, target);
     let mut out = Text::new(alloc);
     for (name, value) in query(alloc, &target).expect(rt, "memory").as_slice() {
         for part in [name.as_str(), "=", value.as_str(), "\n"] {

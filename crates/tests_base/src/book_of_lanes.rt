@@ -3,10 +3,10 @@
 ghost use Rattle.std.specs.Prelude.{◌≡◌, ◌≤◌, [], ◌∷◌, length, IfOk};
 ghost use Rattle.mx_lanes.specs.Held.{spare_of};
 
-use crate::{
+use mx_ids::{Memory, Seq};
+use mx_lanes::{
     Book, book_stands_for_one_history, book_stands_still, book_stands_with_one_store_more,
 };
-use mx_ids::{Memory, Seq};
 use std::alloc::Global;
 
 fn one(alloc: Global, item: u64) -> Result<Seq<u64>, Memory>

@@ -3,7 +3,7 @@
 ghost use Rattle.std.specs.Prelude.{◌≡◌, [], ◌∷◌, IfOk};
 ghost use Rattle.mx_core.specs.declared.machine.Step.TheVariants.{Draw, Store};
 
-use crate::{
+use mx_core::{
     Machine, Moved, Placed, Step, StepFault, front_covers_no_unfinished_write, front_never_falls,
 };
 use mx_ids::{Memory, Seq};

@@ -1,8 +1,8 @@
 //! Requests as a reader gives them, and what ends a connection. Most requests are texts of a JSON list.
 ghost use Rattle.std.specs.Prelude.{◌<◌};
 
-use crate::{Call, HttpFault, Reader, reader};
-use mx_json::{Json, read};
+use crate::make::{json, list};
+use mx_http::{Call, HttpFault, Reader, reader};
 use mx_outside::MemSource;
 use std::alloc::Global;
 use std::process::Abort;
@@ -28,14 +28,6 @@ fn first(rt: &impl Abort, alloc: Global, bytes: &[u8]) -> Result<Option<Call>, H
 /// Whether some bytes begin with a request, or why not.
 fn is_asked(rt: &impl Abort, alloc: Global, bytes: &[u8]) -> Result<bool, HttpFault> {
     Ok(first(rt, alloc, bytes)?.is_some())
-}
-
-fn json(rt: &impl Abort, alloc: Global, text: &str) -> Json {
-    read(alloc, text.as_bytes()).expect(rt, "a JSON text")
-}
-
-fn list<'a>(rt: &impl Abort, json: &'a Json) -> &'a [Json] {
-    json.as_list().expect(rt, "a list").as_slice()
 }
 
 /// Asserts that each text of a list begins with no request, for this cause.
