@@ -2,7 +2,7 @@ use Rattle.std.proofs.Common.{◌≡◌, ◌+◌, length, sym, subst, arith}
 use Rattle.mx_window.proofs.Intervals.{stand_from-push}
 use Rattle.mx_account.specs.Entries.{position_of}
 use Rattle.mx_account.specs.Values.{AreInPlace}
-use Rattle.mx_account.proofs.tests.add.Goals as goal
+use Rattle.tests_events.proofs.account_data.add.Goals as goal
 
 pub returns-clause-after : goal.returns-clause-after
 returns-clause-after g c =

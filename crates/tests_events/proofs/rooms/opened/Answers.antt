@@ -1,7 +1,7 @@
 use Rattle.std.proofs.Common.{◌≡◌, IfOk, OnOk, length, ap, subst, ◌∙◌}
 use Rattle.mx_room.specs.Books.{Rooms, no_rooms}
 use Rattle.mx_room.proofs.Positions.{first_below}
-use Rattle.mx_room.proofs.tests.opened.Goals as goal
+use Rattle.tests_events.proofs.rooms.opened.Goals as goal
 
 pub returns : goal.returns
 returns g c =
