@@ -22,7 +22,7 @@ use Rattle.mx_auth.specs.declared.kept.Change.TheVariants.{Nothing, Creator, Joi
 use Rattle.mx_auth.specs.declared.kept.Count.{Count}
 use Rattle.mx_auth.specs.declared.kept.Kept.{Kept}
 use Rattle.mx_auth.specs.declared.kept.Waiting.{Waiting}
-use Rattle.mx_auth.specs.Kept.{Memberships, HasRoom, IsKept, IsSet, IsWaiting, KeysStay, any_sent, count_of, next_count, change_of, creator_after, join_rule_after, powers_after, membership_after, membership_at, waiting_of}
+use Rattle.mx_auth.specs.Kept.{Memberships, HasPlace, IsKept, IsSet, IsWaiting, KeysStay, any_sent, count_of, next_count, change_of, creator_after, join_rule_after, powers_after, membership_after, membership_at, waiting_of}
 use Rattle.mx_auth.specs.Placing.{PlaceList, PlaceTest, any_place}
 
 -- ---- the definitions over one event more
@@ -197,28 +197,28 @@ still_kept old ms places es same again kept = record {
 
 -- ---- what waits
 
--- the room for an event stands where no key is lost
-stays : (c : Change) (key : List ℕ) (m n : Memberships) → KeysStay m n → HasRoom c key m → HasRoom c key n
+-- the place for a membership stands where no key is lost
+stays : (c : Change) (key : List ℕ) (m n : Memberships) → KeysStay m n → HasPlace c key m → HasPlace c key n
 stays Nothing key m n keys h = h
 stays (Creator user) key m n keys h = h
 stays (JoinRule text) key m n keys h = h
 stays (Powers content) key m n keys h = h
 stays (Membership membership) key m n keys h = keys key h
 
-rooms_stay : (m n : Memberships) (es : List Event) → KeysStay m n → AllByRecursion (λ (e : Event). HasRoom (change_of e) (target e) m) es → AllByRecursion (λ (e : Event). HasRoom (change_of e) (target e) n) es
-rooms_stay m n es keys = AllByRecursion-weaker (λ (e : Event). HasRoom (change_of e) (target e) m) (λ (e : Event). HasRoom (change_of e) (target e) n) (λ e. stays (change_of e) (target e) m n keys) es
+members_stay : (m n : Memberships) (es : List Event) → KeysStay m n → AllByRecursion (λ (e : Event). HasPlace (change_of e) (target e) m) es → AllByRecursion (λ (e : Event). HasPlace (change_of e) (target e) n) es
+members_stay m n es keys = AllByRecursion-weaker (λ (e : Event). HasPlace (change_of e) (target e) m) (λ (e : Event). HasPlace (change_of e) (target e) n) (λ e. stays (change_of e) (target e) m n keys) es
 
 -- what waits goes on waiting
 pub still_waiting : (old new : Kept) (ws : List Waiting) (es : List Event) → KeysStay old.memberships new.memberships → length es ≤ new.places.spare → IsWaiting old ws es → IsWaiting new ws es
-still_waiting old new ws es keys room h = record { copied = h.copied; rooms = rooms_stay old.memberships new.memberships es keys h.rooms; places = room }
+still_waiting old new ws es keys enough h = record { copied = h.copied; members = members_stay old.memberships new.memberships es keys h.members; places = enough }
 
 -- one more waits
 pub more_waiting : (old new : Kept) (ws : List Waiting) (es : List Event) (w : Waiting) (e : Event) → KeysStay old.memberships new.memberships → length es + 1 ≤ new.places.spare
-    → w ≡ waiting_of e → HasRoom (change_of e) (target e) new.memberships → IsWaiting old ws es → IsWaiting new (ws ++ w ∷ []) (es ++ e ∷ [])
-more_waiting old new ws es w e keys room is here h = record {
+    → w ≡ waiting_of e → HasPlace (change_of e) (target e) new.memberships → IsWaiting old ws es → IsWaiting new (ws ++ w ∷ []) (es ++ e ∷ [])
+more_waiting old new ws es w e keys enough is here h = record {
   copied = ap₂ (λ vs (v : Waiting). vs ++ v ∷ []) h.copied is ∙ sym (map-append waiting_of es (e ∷ []));
-  rooms = AllByRecursion-append (λ (x : Event). HasRoom (change_of x) (target x) new.memberships) es (e ∷ []) (rooms_stay old.memberships new.memberships es keys h.rooms) (here, tt);
-  places = omega (arith, room, length-append es (e ∷ []));
+  members = AllByRecursion-append (λ (x : Event). HasPlace (change_of x) (target x) new.memberships) es (e ∷ []) (members_stay old.memberships new.memberships es keys h.members) (here, tt);
+  places = omega (arith, enough, length-append es (e ∷ []));
 }
 
 -- how many wait
@@ -227,10 +227,10 @@ count_waiting kept ws es h = ap length h.copied ∙ length-map es waiting_of
 
 -- the first that waits
 pub first_waiting : (kept : Kept) (ws : List Waiting) (es : List Event) (e : Event) → es ≡ e ∷ drop 1 es → IsWaiting kept ws es
-    → (ws ≡ waiting_of e ∷ map waiting_of (drop 1 es)) × HasRoom (change_of e) (target e) kept.memberships × (0 < kept.places.spare) × AllByRecursion (λ (x : Event). HasRoom (change_of x) (target x) kept.memberships) (drop 1 es) × (length (drop 1 es) + 1 ≤ kept.places.spare)
+    → (ws ≡ waiting_of e ∷ map waiting_of (drop 1 es)) × HasPlace (change_of e) (target e) kept.memberships × (0 < kept.places.spare) × AllByRecursion (λ (x : Event). HasPlace (change_of x) (target x) kept.memberships) (drop 1 es) × (length (drop 1 es) + 1 ≤ kept.places.spare)
 first_waiting kept ws es e is h =
-    let rooms = subst (AllByRecursion (λ (x : Event). HasRoom (change_of x) (target x) kept.memberships)) is h.rooms in
-    (h.copied ∙ ap (map waiting_of) is, rooms.0, omega (arith, h.places, ap length is), rooms.1, omega (arith, h.places, ap length is))
+    let members = subst (AllByRecursion (λ (x : Event). HasPlace (change_of x) (target x) kept.memberships)) is h.members in
+    (h.copied ∙ ap (map waiting_of) is, members.0, omega (arith, h.places, ap length is), members.1, omega (arith, h.places, ap length is))
 
 -- the others that wait, once the first is settled
 pub rest_waiting : (old new : Kept) (ws rest : List Waiting) (es : List Event) (e : Event) → es ≡ e ∷ drop 1 es → IsWaiting old ws es → rest ≡ drop 1 ws → KeysStay old.memberships new.memberships
@@ -238,7 +238,7 @@ pub rest_waiting : (old new : Kept) (ws rest : List Waiting) (es : List Event) (
 rest_waiting old new ws rest es e is h left keys spare =
     let first = first_waiting old ws es e is h in record {
       copied = left ∙ ap (drop 1) first.0;
-      rooms = rooms_stay old.memberships new.memberships (drop 1 es) keys first.3;
+      members = members_stay old.memberships new.memberships (drop 1 es) keys first.3;
       places = omega (arith, first.4, spare);
     }
 

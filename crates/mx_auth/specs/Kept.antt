@@ -110,20 +110,20 @@ pub record IsSet (change : Change) (key : List ℕ) (old new : Kept) : Type 0 wh
   pub placed : new.places ≡ old.places
   pub keys : KeysStay old.memberships new.memberships
 
--- there is room for the membership that a change sets under a key
-abbrev pub HasRoom : Change → List ℕ → Memberships → Type 0
-HasRoom Nothing key m = Unit {0}
-HasRoom (Creator user) key m = Unit {0}
-HasRoom (JoinRule rule) key m = Unit {0}
-HasRoom (Powers content) key m = Unit {0}
-HasRoom (Membership membership) key m = IsSome (get_by_text m key)
+-- there is a place for the membership that a change sets under a key
+abbrev pub HasPlace : Change → List ℕ → Memberships → Type 0
+HasPlace Nothing key m = Unit {0}
+HasPlace (Creator user) key m = Unit {0}
+HasPlace (JoinRule rule) key m = Unit {0}
+HasPlace (Powers content) key m = Unit {0}
+HasPlace (Membership membership) key m = IsSome (get_by_text m key)
 
 -- what waits to be settled of an event
 abbrev pub waiting_of : Event → Waiting
 waiting_of e = record { change = change_of e; sender = e.sender }
 
--- there is room for events, of which these parts wait
+-- events are ready, of which these parts wait
 pub record IsWaiting (kept : Kept) (ws : List Waiting) (es : List Event) : Type 0 where
   pub copied : ws ≡ map waiting_of es
-  pub rooms : AllByRecursion (λ (e : Event). HasRoom (change_of e) (target e) kept.memberships) es
+  pub members : AllByRecursion (λ (e : Event). HasPlace (change_of e) (target e) kept.memberships) es
   pub places : length es ≤ kept.places.spare

@@ -3,7 +3,7 @@ use Rattle.std.specs.Prelude.{ℕ, List, [], Bool, ◌==◌}
 use Rattle.std.specs.List.{list_any}
 use Rattle.mx_auth.specs.declared.places.Place.{Place}
 
--- places in the order of their positions, and how many more there is room for
+-- places in the order of their positions, and how many more can be put without memory
 pub record PlaceList : Type 0 where
   pub items : List Place
   pub spare : ℕ

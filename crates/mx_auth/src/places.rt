@@ -16,11 +16,11 @@ pub(crate) struct Place {
     pub(crate) sender: UserId,
 }
 
-/// The places of the events of a room, in the order of their positions, with room that is made beforehand.
+/// The places of the events of a room, in the order of their positions, with spare places that are made beforehand.
 #[derive(Drop)]
 pub(crate) struct Places {
     items: Vec<Place>,
-    /// How many places there is room for without memory.
+    /// How many places can be put without memory.
     spare: usize,
 }
 
@@ -38,7 +38,7 @@ impl Model for Places {
 }
 
 impl Places {
-    /// No place, and no room. Takes no memory.
+    /// No place, and none that is spare. Takes no memory.
     pub(crate) fn new(alloc: Global) -> Places
         ensures { result ≡ no_places }
     {
@@ -48,10 +48,10 @@ impl Places {
         }
     }
 
-    /// Makes room for `count` places. `Memory` leaves the places and the room that there is.
+    /// Makes at least `count` spare places. `Memory` leaves the places and those that are spare.
     pub(crate) fn reserve(&mut self, count: usize) -> Result<(), Memory>
         ensures items { self.new.items ≡ self.old.items }
-        ensures room { OnOk result (count ≤ self.new.spare) }
+        ensures enough { OnOk result (count ≤ self.new.spare) }
         ensures spare { self.old.spare ≤ self.new.spare }
     {
         self.items.reserve(count)?;

@@ -18,16 +18,16 @@ use std::collections::VecDeque;
 use std::marker::Model;
 
 /// The state of a room after its events, as far as the authorization rules read it. Contracts see it as the list of the
-/// events that it took in, and beside it the list of the events that it has room for; of these it holds what the rules ask
+/// events that it took in, and beside it the list of the events that are ready to be taken in; of these it holds what the rules ask
 /// alone.
 #[derive(Drop)]
 pub struct AuthState {
     alloc: Global,
     kept: Kept,
-    /// What is wanted of the events that there is room for, in their order.
+    /// What is wanted of the events that are ready, in their order.
     waiting: VecDeque<Waiting>,
     taken: Taken,
-    room: Taken,
+    ready: Taken,
 }
 
 impl Model for AuthState {
@@ -40,9 +40,9 @@ impl Model for AuthState {
 
     ghost use Rattle.mx_auth.specs.Kept.{IsKept, IsWaiting};
 
-    ghost view = { λ s. record { events = s.taken.events; room = s.room.events } };
+    ghost view = { λ s. record { events = s.taken.events; ready = s.ready.events } };
 
-    ghost invariant = { λ s. IsKept s.kept s.taken.events × IsWaiting s.kept s.waiting.items s.room.events };
+    ghost invariant = { λ s. IsKept s.kept s.taken.events × IsWaiting s.kept s.waiting.items s.ready.events };
 }
 
 impl AuthState {
@@ -55,7 +55,7 @@ impl AuthState {
             kept: Kept::new(alloc),
             waiting: VecDeque::new(alloc),
             taken: Taken::new(),
-            room: Taken::new(),
+            ready: Taken::new(),
         }
     }
 
@@ -73,37 +73,37 @@ impl AuthState {
         Ok(())
     }
 
-    /// Makes room for an event, after those that there is room for already, so that `take_ready` can take it in. `Memory`
+    /// Readies an event, after those that are ready already: `take_ready` can then take it in without memory. `Memory`
     /// where an allocation that a copy of what it sets needs is refused: the state is then as it was.
-    pub fn make_room(&mut self, event: &Event) -> Result<(), Memory>
-        ensures ok { OnOk result (self.new ≡ record self.old { room = self.old.room ++ event.now ∷ [] }) }
+    pub fn make_ready(&mut self, event: &Event) -> Result<(), Memory>
+        ensures ok { OnOk result (self.new ≡ record self.old { ready = self.old.ready ++ event.now ∷ [] }) }
         ensures same { OnErr result (self.new ≡ self.old) }
     {
         let count = self.waiting.len() + 1;
         let waiting = self.kept.prepare(self.alloc, event, count)?;
         self.waiting.push_back(waiting)?;
-        self.room = Taken::with(&self.room, event);
+        self.ready = Taken::with(&self.ready, event);
         Ok(())
     }
 
-    /// Takes in the first of the events that there is room for, as it stands at the position `at` in a block that begins at
+    /// Takes in the first of the events that are ready, as it stands at the position `at` in a block that begins at
     /// `first`. Takes no memory.
     pub fn take_ready(&mut self, event: &Event, first: u64, at: u64)
-        requires { self.old.room ≡ event.now ∷ drop 1 self.old.room }
-        ensures { self.new ≡ record { events = self.old.events ++ placed_event event.now first at ∷ []; room = drop 1 self.old.room } }
+        requires { self.old.ready ≡ event.now ∷ drop 1 self.old.ready }
+        ensures { self.new ≡ record { events = self.old.events ++ placed_event event.now first at ∷ []; ready = drop 1 self.old.ready } }
     {
         let waiting = self.waiting.pop_front().unwrap();
         self.kept.settle(target(event), waiting, at);
         self.taken = Taken::placed(&self.taken, event, &first, &at);
-        self.room = Taken::rest(&self.room);
+        self.ready = Taken::rest(&self.ready);
     }
 
-    /// Drops the room that was made. Takes no memory.
-    pub fn drop_room(&mut self)
-        ensures { self.new ≡ record self.old { room = [] } }
+    /// Drops the events that are ready. Takes no memory.
+    pub fn drop_ready(&mut self)
+        ensures { self.new ≡ record self.old { ready = [] } }
     {
         self.waiting.clear();
-        self.room = Taken::new();
+        self.ready = Taken::new();
     }
 
     /// The membership of a user (Client-Server API, m.room.member), or `None` where no member event of the user stands, or

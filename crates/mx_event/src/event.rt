@@ -3,6 +3,7 @@ ghost use Rattle.std.specs.Prelude.{◌≡◌, option_map};
 ghost use Rattle.mx_event.specs.Forms.{redacts_of};
 ghost use Rattle.mx_event.specs.Kinds.{is_redaction};
 
+use crate::event_types::REDACTION;
 use mx_ids::{EventId, RoomId, Seq, Text, UserId};
 use mx_json::Json;
 
@@ -47,7 +48,7 @@ impl Event {
     pub fn is_redaction(&self) -> bool
         ensures { result ≡ is_redaction self.now }
     {
-        self.kind.as_str() == "m.room.redaction" && self.state_key.is_none()
+        self.kind.as_str() == REDACTION && self.state_key.is_none()
     }
 
     /// What a redaction has at the key `redacts` of its content: in a well-formed one the id of the event

@@ -7,8 +7,8 @@ use Rattle.mx_auth.proofs.state.AuthState.take_ready.Goals as goal
 
 pub invariant_of-self : goal.invariant_of-self
 invariant_of-self c =
-    let s = c.self.inside in let waits = c.self.invariant.1 in let e = c.args.event.now in let es = s.room.events in
-    let begins : es ≡ e ∷ drop 1 es = subst (λ (t : Standing). t.room ≡ e ∷ drop 1 t.room) (sym c.self.view_is) c.requires in
+    let s = c.self.inside in let waits = c.self.invariant.1 in let e = c.args.event.now in let es = s.ready.events in
+    let begins : es ≡ e ∷ drop 1 es = subst (λ (t : Standing). t.ready ≡ e ∷ drop 1 t.ready) (sym c.self.view_is) c.requires in
     let first = first_waiting s.kept s.waiting.items es e begins waits in
     let is : c.unwrap-waiting.result ≡ waiting_of e = popped _ _ _ _ _ _ c.pop_front.ensures.items c.unwrap-waiting.ensures first.0 in (
       subst (IsKept c.settle.new.self) (sym c.placed-self-inside.ensures)

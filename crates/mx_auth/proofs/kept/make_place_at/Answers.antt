@@ -1,6 +1,6 @@
 use Rattle.std.proofs.Common.{None}
 use Rattle.mx_auth.proofs.Maps.{keys_set, membership_room}
-use Rattle.mx_auth.proofs.kept.make_room_at.Goals as goal
+use Rattle.mx_auth.proofs.kept.make_place_at.Goals as goal
 
 pub returns-in_ok-insert-clause-same : goal.returns-in_ok-insert-clause-same
 returns-in_ok-insert-clause-same c =
