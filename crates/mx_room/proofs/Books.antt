@@ -182,14 +182,6 @@ after_one {writer} {rs} {txns} {key} {fresh} {spare} {b} held none view is first
     (subst (λ f. IsBook writer (set rs i (after_block first (one.0 ∷ []) (get_or rs i blank))) txns' key' f spare' b') (sym gone)
     (subst (λ r. IsBook writer (set rs i (after_block first (one.0 ∷ []) (get_or rs i blank))) txns' key' None spare' r) (sym taken) all))
 
--- the index of transactions is settled where one event waits
-pub settled_before : {writer : ℕ} {rs : List Room} {txns : TxnIndex} {key : Option TxnKey} {fresh : Option Standing} {spare : Type 0} {b : Rooms} → IsBook writer rs txns key fresh spare b
-    → fresh ≡ None → (view : Rooms) → b ≡ view → 0 < length view.pending → txns.last ≡ None
-settled_before {writer} {rs} {txns} {key} {fresh} {spare} {b} held none view is some =
-    let held' : IsBook writer rs txns key None spare b = subst (λ f. IsBook writer rs txns key f spare b) none held in
-    let one = one_waits writer rs txns key spare b.pending (subst (λ (r : Rooms). 0 < length r.pending) (sym is) some) held'.waits in
-    one.2.settled
-
 -- rooms of which none got an event or lost one
 module _ {writer : ℕ} {rs : List Room} {txns : TxnIndex} {key : Option TxnKey} {fresh : Option Standing} {spare : Type 0} {b : Rooms} (held : IsBook writer rs txns key fresh spare b)
     (rs' : List Room) (kept : map bare rs' ≡ map bare rs) (txns' : TxnIndex) (same : (k : TxnKey) → id_at txns' k ≡ id_at txns k) (key' : Option TxnKey) (b' : Rooms) (spare' : Type 0) where

@@ -14,11 +14,11 @@ invariant_of-self c =
     let same : c.deref.result.now ≡ ps = c.deref.ensures.value in
     let sorted = subst (IsNonDecreasingBy place_position) (sym same) c.self.invariant.0 in
     let point = IsPartitionPoint-from_clause (λ (p : Place). leb p.at at) _ _ c.partition_point-index.ensures.partitioned (IsPartitionedBy-leb place_position _ at sorted) (λ a r q k. search rules) in
-    let room = subst (λ (l : PlaceList). 0 < l.spare) (sym c.self.view_is) c.requires in (
+    let some = subst (λ (l : PlaceList). 0 < l.spare) (sym c.self.view_is) c.requires in (
       subst (IsNonDecreasingBy place_position) (sym (when_ok _ _ _ _ _ c.unwrap.ensures c.insert.ensures.items))
           (put_sorted ps i c.args.place c.self.invariant.0 (omega (arith, c.partition_point-index.ensures.bound, ap length same))
           (subst (λ xs. IsPartitionPoint (λ (p : Place). leb p.at at ≡ true) (λ (p : Place). leb p.at at ≡ false) xs i) same point)),
-      omega (arith, room, c.self.invariant.1, c.insert.ensures.capacity, when_ok _ _ _ _ _ c.unwrap.ensures c.insert.ensures.len),
+      omega (arith, some, c.self.invariant.1, c.insert.ensures.capacity, when_ok _ _ _ _ _ c.unwrap.ensures c.insert.ensures.len),
     )
 
 pub returns-clause-items : goal.returns-clause-items
