@@ -2,4 +2,5 @@ mod Entries
 mod Maps
 mod Named
 mod Next
+mod Numbering
 mod Sorted

@@ -38,7 +38,7 @@ membership_place m n key k there is found absent h user =
 
 -- ---- keys
 
-still-some : {X : Type 0} (b : Bool) (w : X) (o : Option X) → IsSome o → IsSome (cond b (Some w) o)
+pub still-some : {X : Type 0} (b : Bool) (w : X) (o : Option X) → IsSome o → IsSome (cond b (Some w) o)
 still-some true w o h = refl
 still-some false w o h = h
 

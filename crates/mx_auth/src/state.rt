@@ -6,9 +6,8 @@ ghost use Rattle.mx_event.specs.State.{creator, join_rule, membership_of};
 ghost use Rattle.mx_auth.specs.Kept.{has_event, has_sent};
 ghost use Rattle.mx_auth.specs.Standing.{no_standing};
 
-use crate::kept::{Count, Kept, Waiting};
+use crate::kept::{Change, Count, Kept};
 use crate::kinds::target;
-use crate::places::any_by;
 use crate::taken::Taken;
 use mx_event::Event;
 use mx_ids::{Memory, Text, UserId};
@@ -24,8 +23,8 @@ use std::marker::Model;
 pub struct AuthState {
     alloc: Global,
     kept: Kept,
-    /// What is wanted of the events that are ready, in their order.
-    waiting: VecDeque<Waiting>,
+    /// What the events that are ready set, in their order.
+    waiting: VecDeque<Change>,
     taken: Taken,
     ready: Taken,
 }
@@ -67,8 +66,9 @@ impl AuthState {
         ensures same { OnErr result (self.new ≡ self.old) }
     {
         let count = self.waiting.len() + 1;
-        let waiting = self.kept.prepare(self.alloc, event, count)?;
-        self.kept.settle(target(event), waiting, event.id.at);
+        let change = self.kept.prepare(self.alloc, event, count)?;
+        self.kept
+            .settle(target(event), event.sender.as_str(), change, event.id.at);
         self.taken = Taken::with(&self.taken, event);
         Ok(())
     }
@@ -80,8 +80,8 @@ impl AuthState {
         ensures same { OnErr result (self.new ≡ self.old) }
     {
         let count = self.waiting.len() + 1;
-        let waiting = self.kept.prepare(self.alloc, event, count)?;
-        self.waiting.push_back(waiting)?;
+        let change = self.kept.prepare(self.alloc, event, count)?;
+        self.waiting.push_back(change)?;
         self.ready = Taken::with(&self.ready, event);
         Ok(())
     }
@@ -92,8 +92,9 @@ impl AuthState {
         requires { self.old.ready ≡ event.now ∷ drop 1 self.old.ready }
         ensures { self.new ≡ record { events = self.old.events ++ placed_event event.now first at ∷ []; ready = drop 1 self.old.ready } }
     {
-        let waiting = self.waiting.pop_front().unwrap();
-        self.kept.settle(target(event), waiting, at);
+        let change = self.waiting.pop_front().unwrap();
+        self.kept
+            .settle(target(event), event.sender.as_str(), change, at);
         self.taken = Taken::placed(&self.taken, event, &first, &at);
         self.ready = Taken::rest(&self.ready);
     }
@@ -162,13 +163,13 @@ impl AuthState {
     pub(crate) fn has_sent(&self, user: &UserId, at: u64) -> bool
         ensures { result ≡ has_sent user.now at self.now.events }
     {
-        any_by(self.kept.places.at(at), user)
+        self.kept.places.has_by(at, user.as_str())
     }
 
     /// Whether an event is at a position.
     pub(crate) fn has_event(&self, at: u64) -> bool
         ensures { result ≡ has_event at self.now.events }
     {
-        !self.kept.places.at(at).is_empty()
+        self.kept.places.has(at)
     }
 }
