@@ -2,8 +2,6 @@
 #![tactic(auto)]
 
 mod answer;
-#[cfg(test)]
-mod answer_tests;
 mod call;
 mod fault;
 mod fields;
@@ -17,8 +15,6 @@ mod requests;
 mod stage;
 mod start;
 mod target;
-#[cfg(test)]
-mod tests;
 
 pub use answer::{Answer, Body, WriteFault, write_answer};
 pub use call::Call;

@@ -33,6 +33,3 @@ pub use sink::{Put, Sink};
 pub use source::{Source, Took};
 pub use step_clock::StepClock;
 pub use streams::{Reading, StdErr, StdIn, StdOut, Writing};
-
-#[cfg(test)]
-mod tests;
