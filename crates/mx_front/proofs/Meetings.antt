@@ -3,6 +3,8 @@ use Rattle.std.proofs.Common.{◌≡◌, ℕ, ◌+◌, ◌%◌, ◌^◌, ◌<◌
 use Rattle.std.proofs.lemmas.Bool.{cases_Bool}
 use mathlib.Core.Option as maybe
 use Rattle.atomic_table.specs.Table.{step, Allows}
+use Rattle.mx_core.specs.Orderly.{IsOrderly}
+use Rattle.mx_core.proofs.Orders.{begins_orderly}
 use Rattle.mx_core.specs.History.{own, Begins, Law, keeps_law}
 use Rattle.mx_core.proofs.Histories.{begins_self}
 use Rattle.mx_core.proofs.Owns.{begins_own}
@@ -71,6 +73,7 @@ module _ {I : Type 0} (law : Law I) where
           first = begins_first xs ys b;
           second = begins_second xs ys b;
           lawful = ap (keeps_law law []) (sym (longer_again xs ys)) ∙ l.lawful;
+          orderly = subst IsOrderly (longer_again xs ys) l.orderly;
           read = refl;
           looks = refl;
         };
@@ -90,6 +93,8 @@ module _ {I : Type 0} (law : Law I) where
             (λ c. begins_same (own u.seen k) v.own before (subst (λ z. Begins z (own u.seen k)) complete (begins_own v.seen u.seen k c)))
             (λ c. complete) noted;
         lawful = longer_of (λ z. keeps_law law [] z ≡ true) u.seen v.seen pass pen;
+        orderly = longer_of (λ z. IsOrderly z) u.seen v.seen (begins_orderly u.seen (longer v.seen u.seen) (begins_second v.seen u.seen l.begins) l.orderly)
+            (begins_orderly v.seen (longer v.seen u.seen) (begins_first v.seen u.seen l.begins) l.orderly);
         read = refl;
         looks = refl;
       }

@@ -5,6 +5,8 @@ use Rattle.atomic_table.specs.Table.{step, Allows, rest}
 use Rattle.mx_core.specs.declared.history.Stored.{Stored}
 use Rattle.mx_core.specs.Front.{IsFront}
 use Rattle.mx_core.specs.History.{own, is_stored, Law}
+use Rattle.mx_core.specs.Orderly.{top}
+use Rattle.mx_core.proofs.Orders.{orderly_more}
 use Rattle.mx_core.proofs.Owns.{own-here, keeps_law_more}
 use Rattle.mx_lanes.specs.Held.{Held, StandsFor, Keeps, OthersKeep, spare_of}
 use Rattle.mx_lanes.specs.Parts.{Taken, IsUpTo}
@@ -53,8 +55,9 @@ module _ {I : Type 0} (law : Law I) where
         below = e.below;
         begins = l.begins;
         lawful = l.lawful;
+        orderly = l.orderly;
         reads = l.reads;
-        pen = λ k who. let o = l.pen k who in record { own_is = o.own_is; block = o.block; apart = o.apart };
+        pen = λ k who. let o = l.pen k who in record { own_is = o.own_is; block = o.block; above = o.above; apart = o.apart };
       }
 
   -- a pen with a block may store it
@@ -155,6 +158,8 @@ module _ {I : Type 0} (law : Law I) where
           block = refl;
           front = st.front;
           lawful = keeps_law_more law s.all x s.lawful (ap (λ l. law x.writer l x.first x.items) o.own_is ∙ lawful);
+          orderly = orderly_more s.all x s.orderly (λ p low high. o.apart (record { first = x.first; count = length x.items }) p block low high)
+              (subst (λ l. top 0 l < x.first) (sym o.own_is) (o.above (record { first = x.first; count = length x.items }) block));
           reserve =
               let r = s.room x.writer who in
               let now : u.reserve ≡ get_or st.book.spare x.writer 0 = ap (λ w. reserve_in w (v.reserve - length x.items) st.book.spare) who in
@@ -254,7 +259,7 @@ module _ {I : Type 0} where
       let is : m2 ≡ (leaving (seizing v t s.all s.book.spare) g.new, []) = left g.new (ap (λ (y : Sat I). y.1) g.is) ∙ ap (λ (y : Sat I). let z : Sat I = (leaving y.0 g.new, []) in z) went.0 in
       subst (HasLooked law v) (sym is) (record {
         rests = (refl, refl);
-        looks = record { begins = s.begins; looks = refl; lawful = s.lawful; read = refl; reads = s.reads };
+        looks = record { begins = s.begins; looks = refl; lawful = s.lawful; orderly = s.orderly; read = refl; reads = s.reads };
       })
 
   -- the items up to the front

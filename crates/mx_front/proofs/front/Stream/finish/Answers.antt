@@ -11,7 +11,7 @@ pub invariant_of-pen : goal.invariant_of-pen
 invariant_of-pen g c =
     let f = finished _ _ _ _ _ _ _ _ c.seize-ticket.ensures.seized c.args.pen.now.writes (c.requires.block ∙ ap (block_at c.args.drawn.first) c.requires.count) c.requires.lawful
     c.put_store-front.ensures.stored c.leave.ensures.left in
-    record { rests = f.rests; writes = f.writes; complete = f.complete; lawful = f.finishes.lawful }
+    record { rests = f.rests; writes = f.writes; complete = f.complete; lawful = f.finishes.lawful; orderly = f.finishes.orderly }
 
 pub returns-clause-stored : goal.returns-clause-stored
 returns-clause-stored g c =

@@ -4,7 +4,7 @@ use Rattle.mx_front.proofs.front.Stream.look.Goals as goal
 pub invariant_of-pass : goal.invariant_of-pass
 invariant_of-pass g c =
     let h = has_looked _ _ _ _ _ _ c.seize-ticket.ensures.seized c.read_parts-parts.ensures.grown c.leave.ensures.left in
-    record { rests = h.rests; lawful = h.looks.lawful }
+    record { rests = h.rests; lawful = h.looks.lawful; orderly = h.looks.orderly }
 
 pub returns-clause-seen : goal.returns-clause-seen
 returns-clause-seen g c = (has_looked _ _ _ _ _ _ c.seize-ticket.ensures.seized c.read_parts-parts.ensures.grown c.leave.ensures.left).looks

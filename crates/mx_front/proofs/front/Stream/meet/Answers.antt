@@ -12,7 +12,7 @@ load-requires g c = (search rules, search rules, learns_at _ _ _ _ _)
 pub invariant_of-pass : goal.invariant_of-pass
 invariant_of-pass g c =
     let h = has_met _ c.args.pass.now.seat.me _ _ c.args.other.seat.me c.args.pass.now.rests c.join_seat.ensures.2 c.load.ensures.2 in
-    record { rests = h.rests; lawful = h.meets.lawful }
+    record { rests = h.rests; lawful = h.meets.lawful; orderly = h.meets.orderly }
 
 pub returns-clause-met : goal.returns-clause-met
 returns-clause-met g c = (has_met _ c.args.pass.now.seat.me _ _ c.args.other.seat.me c.args.pass.now.rests c.join_seat.ensures.2 c.load.ensures.2).meets
