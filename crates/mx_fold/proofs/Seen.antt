@@ -114,7 +114,7 @@ module _ {R V D F P : Type 0} (w : Server R V D F P) (lists : Lists R) (user : L
   reply_seen ask room = (
     told_seen ask room (next_token ask.since (fronts_of lists)).b (next_token ask.since (fronts_of lists)) (next_e ask.since),
     left_seen (w.sieve ask.filter room) user (events_in lists room) front ask.sync (next_token ask.since (fronts_of lists)).b (position tokens ask.since)
-        (not (joined_at (viewer_of user) (events_in lists room) (position tokens ask.since))) (left_by user (events_in lists room)),
+        (not (joined_at (viewer_of user) (events_in lists room) (position tokens ask.since))) (left_by (viewer_of user) (events_in lists room)),
   )
 
   said_if : (said : Said V D F P) → SeesSaid w lists user said → (b : Bool) → SeesSaid w lists user (cond b said PassedOver)

@@ -15,7 +15,7 @@ use Rattle.mx_event.specs.State.{membership_in}
 use Rattle.mx_event.specs.declared.event.Event.{Event}
 use Rattle.mx_ids.specs.User.{is_user_id_text}
 use Rattle.mx_view.specs.Readings.{membership_as, membership_of, is_own}
-use Rattle.mx_view.specs.Rooms.{named_at}
+use Rattle.mx_view.specs.Readings.{named_at}
 use Rattle.mx_event.specs.Valid.{are_valid}
 use Rattle.mx_view.proofs.Names.{target_below}
 

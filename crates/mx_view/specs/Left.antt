@@ -9,18 +9,16 @@ use Rattle.mx_event.specs.declared.event.Event.{Event}
 use Rattle.mx_folding.specs.Parts.{Part, part_of, picks, picks_new}
 use Rattle.mx_folding.specs.Rooms.{Room}
 use Rattle.mx_folding.specs.Stories.{Sync, position}
-use Rattle.mx_folding.specs.Visible.{is_join, joined_at}
-use Rattle.mx_view.specs.Readings.{is_own, membership_of, viewer_of}
+use Rattle.mx_folding.specs.Visible.{Viewer, is_join, joined_at}
+use Rattle.mx_view.specs.Readings.{viewer_of}
 use Rattle.mx_view.specs.Rooms.{Key, Sieve, room_of}
 use Rattle.mx_view.specs.Tokens.{tokens}
 
-abbrev pub joins : List ℕ → Event → Bool
-joins user e = is_own user e && is_join (membership_of e)
-
 -- the event by which the user's latest stay ended, if it was joined and isn't now
-abbrev pub left_by : List ℕ → List Event → Option Event
-left_by user es = option_and_then (λ (j : Event). first_of (filter (is_own user) (filter (λ (e : Event). nat_lt j.id.at e.id.at) es)))
-    (last_of (joins user) es)
+abbrev pub left_by : Viewer Event → List Event → Option Event
+left_by v es =
+    option_and_then (λ (j : Event). first_of (filter v.is_own (filter (λ (e : Event). nat_lt j.id.at e.id.at) es)))
+    (last_of (λ e. v.is_own e && is_join (v.membership e)) es)
 
 -- a room that is sent with empty state and timeline
 abbrev pub bare_part : ℕ → Part Event
@@ -38,7 +36,9 @@ left_window r es ask b front s fresh (Some l) =
     cond (nat_lt s l.id.at) (part_of r es ask.after ask.limit front (cond fresh 0 s) l.id.at (pick_in r ask b s fresh)) (bare_part front)
 
 -- what is sent of a left room, over its list up to the front
+abbrev pub left_of : Room Event Key → Viewer Event → List Event → Sync → ℕ → Option SyncToken → ℕ → Part Event
+left_of r v es ask b since front =
+    left_window r es ask b front (position tokens since) (not (joined_at v es (position tokens since))) (left_by v es)
+
 abbrev pub left_part : Sieve → List ℕ → List Event → Sync → ℕ → Option SyncToken → ℕ → Part Event
-left_part f user es ask b since front =
-    left_window (room_of f user es) es ask b front (position tokens since)
-    (not (joined_at (viewer_of user) es (position tokens since))) (left_by user es)
+left_part f user es ask b since front = left_of (room_of f user es) (viewer_of user) es ask b since front
