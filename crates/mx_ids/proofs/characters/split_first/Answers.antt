@@ -3,8 +3,8 @@ use Rattle.std.proofs.lemmas.Str.{chars_past_char, chars-nil}
 use Rattle.std.proofs.lemmas.List.{nil_from_length}
 use Rattle.std.specs.Str.{chars}
 use Rattle.std.specs.Prelude.{encode_utf8}
-use Rattle.mx_glob.proofs.First.{shorter}
-use Rattle.mx_glob.proofs.place.split_first.Goals as goal
+use Rattle.mx_ids.proofs.FirstChar.{shorter}
+use Rattle.mx_ids.proofs.characters.split_first.Goals as goal
 
 pub returns-in-Some : goal.returns-in-Some
 returns-in-Some c =
