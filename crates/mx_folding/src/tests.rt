@@ -1,9 +1,9 @@
 //! The laws at a concrete type.
 
 use crate::{
-    all_told_at, chains_fold, events_are_story, events_fold, folds_new, folds_nothing, folds_page,
-    folds_reply, folds_room, holds_all, holds_the_rest, holds_the_state, same_page, same_paged,
-    same_part, same_told, same_visible, section_is_window, sent_is_visible, stays_visible,
+    all_told_at, chains_fold, folds_new, folds_nothing, folds_page,
+    folds_reply, folds_room, holds_all, holds_the_rest, holds_the_state, same_page, 
+    same_part, same_visible, section_is_window, sent_is_visible, stays_visible,
 };
 
 #[test]
@@ -23,9 +23,5 @@ fn laws_hold_of_numbers() {
     section_is_window::<u64, u64>();
     sent_is_visible::<u64, u64>();
     stays_visible::<u64>();
-    events_are_story::<u64, u64, u64, u64>();
-    events_fold::<u64, u64, u64, u64, u64>();
-    same_paged::<u64>();
     same_visible::<u64>();
-    same_told::<u64, u64, u64, u64>();
 }
