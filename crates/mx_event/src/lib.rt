@@ -10,8 +10,6 @@ mod laws;
 mod placed;
 mod redaction;
 mod size;
-#[cfg(test)]
-mod tests;
 
 pub use draft::Draft;
 pub use event::{Event, Shown, Txn};

@@ -19,6 +19,3 @@ pub use room_laws::{
     section_is_window, sent_is_visible,
 };
 pub use visible_laws::{same_visible, stays_visible};
-
-#[cfg(test)]
-mod tests;

@@ -279,3 +279,24 @@ module _ {I : Type 0} where
   pub roomy : (v : View I) (t k n : ℕ) (m m1 m2 : Sat I) → Entered v t m → v.who ≡ Pen k → Grown m m1 → ((b : Held I) → m1.1 ≡ holding b → m2 ≡ (leaving m1.0 b, []))
       → {T E : Type 0} (r : Result T E) → OnOk r ((b : Held I) → m1.1 ≡ holding b → n ≤ get_or b.spare k 0) → OnOk r (n ≤ m2.0.reserve)
   roomy v t k n m m1 m2 e who g left r room = on_ok_weaker r (λ all. room_left v t k n m m1 m2 e who g all left) room
+
+  -- ---- how many stores a seat has seen
+
+  pub counted_store : (v : View I) (x : Stored I) (f : ℕ) (m : Sat I) → Stores v x f m → (h : List (Stored I)) (n : ℕ) → h ≡ v.all → n ≡ length (h ++ x ∷ []) → n ≡ length m.0.seen
+  counted_store v x f m st h n was is = is ∙ (ap (λ l. length (l ++ x ∷ [])) was ∙ sym (ap (λ (y : Sat I). length y.0.seen) st.is))
+
+  pub counted_left : (v : View I) (x : Stored I) (f n : ℕ) (m m' : Sat I) → Stores v x f m → ((b : Held I) → m.1 ≡ holding b → m' ≡ (leaving m.0 b, [])) → n ≡ length m.0.seen → n ≡ length m'.0.seen
+  counted_left v x f n m m' st left is = is ∙ sym (ap (λ (y : Sat I). length y.0.seen) (left st.book (ap (λ (y : Sat I). y.1) st.is)))
+
+  pub counted_look : (n : ℕ) (m m1 m2 : Sat I) → Grown m m1 → ((b : Held I) → m1.1 ≡ holding b → m2 ≡ (leaving m1.0 b, [])) → n ≡ length m.0.seen → n ≡ length m2.0.seen
+  counted_look n m m1 m2 g left is = is ∙ sym (ap (λ (y : Sat I). length y.0.seen) (left g.new (ap (λ (y : Sat I). y.1) g.is)) ∙ ap (λ (y : Sat I). length y.0.seen) g.is)
+
+  -- a book that stays as it is
+  pub kept_book : (law : Law I) (v : View I) (t : ℕ) (m : Sat I) → Seized law v t m → Grown m m
+  kept_book law v t m s = record {
+    old = s.book;
+    new = s.book;
+    hand = ap (λ (y : Sat I). y.1) s.is;
+    is = s.is ∙ sym (ap (λ (y : Sat I). let z : Sat I = (y.0, holding s.book) in z) s.is);
+    keeps = record { history = refl; front = refl; lanes = refl; spare = λ lane. omega arith };
+  }
