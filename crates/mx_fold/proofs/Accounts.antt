@@ -43,8 +43,9 @@ content-append kind xs ys =
 
 data_is : (user kind : List ℕ) (e : Entry) → is_data_of user None kind e ≡ (is_of user None e && bytes_eq (kind_of e) kind)
 data_is user kind (entry.Data own_user room own_kind content at) = refl
+data_is user kind (entry.Filter own_user id filter at) = refl
 
-module _ {R V D F P : Type 0} (w : Server R V D F P) (user : List ℕ) (f : F) (kind : List ℕ) where
+module _ {V D F P : Type 0} (w : Server V D F P) (user : List ℕ) (f : F) (kind : List ℕ) where
   abbrev last_content : List Entry → ℕ → ℕ → Option Json
   last_content entries low high = option_map content_of (last_of (λ (e : Entry). bytes_eq (kind_of e) kind) (between position_of low high (filter (is_of user None) entries)))
 
@@ -130,7 +131,7 @@ module _ {R V D F P : Type 0} (w : Server R V D F P) (user : List ℕ) (f : F) (
       ∙ sym (picture_is entries high)
 
 -- what a reply sends over the lists at its mark
-pub account_at_mark : {R V D F P : Type 0} (w : Server R V D F P) (entries : List Entry) → stand_from position_of 1 entries ≡ true → (user : List ℕ) (f : F) (since : Option SyncToken) (high : ℕ)
+pub account_at_mark : {V D F P : Type 0} (w : Server V D F P) (entries : List Entry) → stand_from position_of 1 entries ≡ true → (user : List ℕ) (f : F) (since : Option SyncToken) (high : ℕ)
     → account_sent w (take high entries) user f since high ≡ account_sent w entries user f since high
 account_at_mark {F = F} w entries stands user f since high = by since where
   sent_same : (low : ℕ) → set_between w (take high entries) user f low high ≡ set_between w entries user f low high

@@ -33,7 +33,7 @@ use Rattle.mx_fold.proofs.Accounts.{account_new, account_more, account_at_mark}
 use Rattle.mx_fold.proofs.Picturing.{holds_picture}
 use Rattle.mx_fold.proofs.Turns.{turns_more, are_more, Found, found_in, rises_in, gap_within}
 
-upto_next : {R : Type 0} (lists : Lists R) (since : Option SyncToken) (fronts : SyncToken) → upto (next_token since fronts) lists ≡ upto fronts lists
+upto_next : (lists : Lists) (since : Option SyncToken) (fronts : SyncToken) → upto (next_token since fronts) lists ≡ upto fronts lists
 upto_next lists None fronts = refl
 upto_next lists (Some s) fronts = refl
 
@@ -45,8 +45,8 @@ next_behind : (since : Option SyncToken) (fronts : SyncToken) → is_behind sinc
 next_behind None fronts h = tt
 next_behind (Some t) fronts h = h
 
-module _ {R V D F P : Type 0} (w : Server R V D F P) (server : IsServer w) (h : Histories R) (lawful : AreLawful h) (rests : RestsFold w (lists_of h)) (user : List ℕ) (f : F) (folds : w.folds f ≡ true) where
-  abbrev final : Lists R
+module _ {V D F P : Type 0} (w : Server V D F P) (server : IsServer w) (h : Histories) (lawful : AreLawful h) (rests : RestsFold w (lists_of h)) (user : List ℕ) (f : F) (folds : w.folds f ≡ true) where
+  abbrev final : Lists
   final = lists_of h
 
   abbrev stories : RoomId → Story Event Key V D SyncToken
@@ -95,7 +95,7 @@ module _ {R V D F P : Type 0} (w : Server R V D F P) (server : IsServer w) (h : 
   passed low fronts (Some c) up kept =
       record { turns = kept.turns; taken = kept.taken; comes = kept.comes; based = kept.based; reached = before_trans c.token low fronts kept.reached up; account = kept.account }
 
-  module _ (here : Lists R) (mark : here ≡ upto (fronts_of here) final) (low : SyncToken) (up : is_before low (fronts_of here) ≡ true) where
+  module _ (here : Lists) (mark : here ≡ upto (fronts_of here) final) (low : SyncToken) (up : is_before low (fronts_of here) ≡ true) where
     abbrev fronts : SyncToken
     fronts = fronts_of here
 
@@ -127,7 +127,7 @@ module _ {R V D F P : Type 0} (w : Server R V D F P) (server : IsServer w) (h : 
           ∙ ap (λ t. with_told (stories room) sync.after (position tokens since) next.e t (rooms room)) (told_is base room)
 
       account_is : reply.account ≡ account_sent w final.accounts user f since fronts.a
-      account_is = ap (λ (l : Lists R). account_sent w l.accounts user f since fronts.a) mark ∙ account_at_mark w final.accounts (accounts_stand h lawful) user f since fronts.a
+      account_is = ap (λ (l : Lists). account_sent w l.accounts user f since fronts.a) mark ∙ account_at_mark w final.accounts (accounts_stand h lawful) user f since fronts.a
 
     begins : (sync : Sync) → Kept fronts (after_reply w user f None 0 (nothing_held V) (λ kind. None) sync.after (reply None sync refl))
     begins sync = record {
@@ -270,12 +270,12 @@ module _ {R V D F P : Type 0} (w : Server R V D F P) (server : IsServer w) (h : 
 
 -- ---- the exchanges
 
-rise_to : {R : Type 0} (h : Histories R) (n m : Counts) → AreFewer n m → is_before (fronts_of (lists_at n h)) (fronts_of (lists_at m h)) ≡ true
+rise_to : (h : Histories) (n m : Counts) → AreFewer n m → is_before (fronts_of (lists_at n h)) (fronts_of (lists_at m h)) ≡ true
 rise_to h n m few =
     before_from (fronts_of (lists_at n h)) (fronts_of (lists_at m h)) (front_rises n.events m.events h.events few.events) (front_rises n.receipts m.receipts h.receipts few.receipts)
     (front_rises n.accounts m.accounts h.accounts few.accounts) (omega arith)
 
-module _ {R V D F P : Type 0} (w : Server R V D F P) (server : IsServer w) (h : Histories R) (lawful : AreLawful h) (rests : RestsFold w (lists_of h)) (device : ℕ) (f : F) (folds : w.folds f ≡ true) where
+module _ {V D F P : Type 0} (w : Server V D F P) (server : IsServer w) (h : Histories) (lawful : AreLawful h) (rests : RestsFold w (lists_of h)) (device : ℕ) (f : F) (folds : w.folds f ≡ true) where
   abbrev fronts_at : Counts → SyncToken
   fronts_at n = fronts_of (lists_at n h)
 
@@ -285,7 +285,7 @@ module _ {R V D F P : Type 0} (w : Server R V D F P) (server : IsServer w) (h : 
   one_more : (low : Counts) (a : ℕ × Ask F P) (mark : Mark) (client : Option (Client V)) → AreFewer low mark.stores → IsKept (fronts_at low) client
       → IsKept (fronts_at mark.stores) (cond (nat_eq a.0 device) (with_said w (w.user_of device) f (fronts_at mark.stores).e (exchange_at w h a mark).said client) client)
   one_more low a mark client few kept =
-      let here : Lists R = lists_at mark.stores h in
+      let here : Lists = lists_at mark.stores h in
       let up = rise_to h low mark.stores few in
       elim (cases_Bool (nat_eq a.0 device)) [
         | inl mine ↦ rw mine (
@@ -301,5 +301,5 @@ module _ {R V D F P : Type 0} (w : Server R V D F P) (server : IsServer w) (h : 
   all_agree low client (a ∷ asked) (mark ∷ marks) rise kept =
       all_agree mark.stores (cond (nat_eq a.0 device) (with_said w (w.user_of device) f (fronts_at mark.stores).e (exchange_at w h a mark).said client) client) asked marks rise.1 (one_more low a mark client rise.0 kept)
 
-pub connections_agree : {R V D F P : Type 0} → ConnectionsAgree R V D F P
+pub connections_agree : {V D F P : Type 0} → ConnectionsAgree V D F P
 connections_agree w server h lawful rests asked marks rise device f folds = all_agree w server h lawful rests device f folds no_stores None asked marks rise tt

@@ -27,7 +27,7 @@ use Rattle.mx_event.proofs.Places.{covered_stands}
 use Rattle.mx_fold.specs.Lists.{Lists, Histories, Counts, AreLawful, upto, fronts_of, events_in, lists_of, lists_at}
 use Rattle.mx_fold.specs.Servers.{Server, IsServer, rest_of, story}
 
-upto_upto : {R : Type 0} (i j : SyncToken) (lists : Lists R) → is_before i j ≡ true → upto i (upto j lists) ≡ upto i lists
+upto_upto : (i j : SyncToken) (lists : Lists) → is_before i j ≡ true → upto i (upto j lists) ≡ upto i lists
 upto_upto i j lists h =
     let p = before_parts i j h in
     let events = take-take i.e j.e lists.events p.0 in
@@ -36,7 +36,7 @@ upto_upto i j lists h =
     λ n. record { events = events n; receipts = receipts n; accounts = accounts n }
 
 -- the lists at a mark are the final ones up to its fronts
-pub mark_upto : {R : Type 0} (h : Histories R) (n : Counts) → lists_at n h ≡ upto (fronts_of (lists_at n h)) (lists_of h)
+pub mark_upto : (h : Histories) (n : Counts) → lists_at n h ≡ upto (fronts_of (lists_at n h)) (lists_of h)
 mark_upto h n =
     let events = covers_more n.events h.events in
     let receipts = covers_more n.receipts h.receipts in
@@ -50,13 +50,13 @@ entries_placed before (s ∷ h) law =
     let parts = and_parts (account.are_placed s.first s.items) (keeps_law (λ writer before first items. account.are_placed first items) (before ++ s ∷ []) h) law in
     (parts.0, entries_placed (before ++ s ∷ []) h parts.1)
 
-pub events_stand : {R : Type 0} (h : Histories R) → AreLawful h → stand_from position_of 1 (lists_of h).events ≡ true
+pub events_stand : (h : Histories) → AreLawful h → stand_from position_of 1 (lists_of h).events ≡ true
 events_stand h is = (rooms_are_valid h.events is.orderly is.events).0
 
-pub accounts_stand : {R : Type 0} (h : Histories R) → AreLawful h → stand_from account.position_of 1 (lists_of h).accounts ≡ true
+pub accounts_stand : (h : Histories) → AreLawful h → stand_from account.position_of 1 (lists_of h).accounts ≡ true
 accounts_stand h is = covered_stands account.position_of h.accounts (entries_placed [] h.accounts is.accounts)
 
-module _ {R V D F P : Type 0} (w : Server R V D F P) (server : IsServer w) (lists : Lists R) (events : stand_from position_of 1 lists.events ≡ true) (user : List ℕ) where
+module _ {V D F P : Type 0} (w : Server V D F P) (server : IsServer w) (lists : Lists) (events : stand_from position_of 1 lists.events ≡ true) (user : List ℕ) where
   -- what comes in a room after a front
   abbrev later_in : ℕ → RoomId → List Event
   later_in n room = of_room room (drop n lists.events)

@@ -86,7 +86,7 @@ module _ {E K V D T : Type 0} (k : Tokens T) (g : Story E K V D T) (j : T) (leav
   sent_told true since None = tt
   sent_told true since (Some e) = sent_by since e (g.membership e)
 
-module _ {R V D F P : Type 0} (w : Server R V D F P) (lists : Lists R) (user : List ℕ) where
+module _ {V D F P : Type 0} (w : Server V D F P) (lists : Lists) (user : List ℕ) where
   abbrev front : ℕ
   front = (fronts_of lists).e
 
@@ -132,7 +132,7 @@ module _ {R V D F P : Type 0} (w : Server R V D F P) (lists : Lists R) (user : L
   answer_seen asked true = tt
   answer_seen asked false = said_seen asked
 
-pub connections_see : {R V D F P : Type 0} → ConnectionsSee R V D F P
+pub connections_see : {V D F P : Type 0} → ConnectionsSee V D F P
 connections_see w h [] marks = tt
 connections_see w h (a ∷ asked) [] = tt
 connections_see w h (a ∷ asked) (mark ∷ marks) = (answer_seen w (lists_at mark.stores h) (w.user_of a.0) a.1 mark.memory, connections_see w h asked marks)

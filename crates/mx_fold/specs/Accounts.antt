@@ -12,10 +12,10 @@ use Rattle.mx_account.specs.Values.{value_at}
 use Rattle.mx_account.specs.declared.entry.Entry.{Entry}
 use Rattle.mx_fold.specs.Servers.{Server}
 
-abbrev pub defaults_of : {R V D F P : Type 0} → Server R V D F P → List ℕ → F → List (List ℕ × Json)
+abbrev pub defaults_of : {V D F P : Type 0} → Server V D F P → List ℕ → F → List (List ℕ × Json)
 defaults_of w user f = filter (λ (p : List ℕ × Json). w.passes_type f p.0) (w.defaults user)
 
-module _ {R V D F P : Type 0} (w : Server R V D F P) (entries : List Entry) (user : List ℕ) (f : F) where
+module _ {V D F P : Type 0} (w : Server V D F P) (entries : List Entry) (user : List ℕ) (f : F) where
   -- the entries of a window that no later one of their type follows, of the types that pass
   abbrev pub set_between : ℕ → ℕ → List (List ℕ × Json)
   set_between low high =
@@ -34,5 +34,5 @@ abbrev pub content_at : List ℕ → List (List ℕ × Json) → Option Json
 content_at kind ps = option_map (λ (p : List ℕ × Json). p.1) (last_of (λ (p : List ℕ × Json). bytes_eq p.0 kind) ps)
 
 -- *Picture*, of a user's global account data: for each type that passes the last content up to a, else the default
-abbrev pub account_at : {R V D F P : Type 0} → Server R V D F P → List Entry → List ℕ → F → ℕ → List ℕ → Option Json
+abbrev pub account_at : {V D F P : Type 0} → Server V D F P → List Entry → List ℕ → F → ℕ → List ℕ → Option Json
 account_at w entries user f a kind = option_or (cond (w.passes_type f kind) (value_at user None kind a entries) None) (content_at kind (defaults_of w user f))

@@ -37,7 +37,7 @@ find_gap low high cut (Open lower upper front ∷ es) =
         (Some (record { before = []; lower = lower; upper = upper; front = front; behind = es }))
     (option_map (λ (g : Gap _). record g { before = Open lower upper front ∷ g.before }) (find_gap low high cut es))
 
-module _ {R V D F P : Type 0} (w : Server R V D F P) (user : List ℕ) (f : F) where
+module _ {V D F P : Type 0} (w : Server V D F P) (user : List ℕ) (f : F) where
   -- apply_reply; no list is read for what a client does
   abbrev pub after_reply : Option SyncToken → ℕ → (RoomId → Holding Event Key V) → (List ℕ → Option Json) → Bool → Reply V D → Client V
   after_reply since front rooms account after reply = record {
@@ -89,18 +89,18 @@ module _ {R V D F P : Type 0} (w : Server R V D F P) (user : List ℕ) (f : F) w
   with_said front PassedOver client = client
 
 -- the device that asked, the lists at the mark, and what was answered
-pub record Exchange (R V D F P : Type 0) : Type 0 where
+pub record Exchange (V D F P : Type 0) : Type 0 where
   pub device : ℕ
-  pub lists : Lists R
+  pub lists : Lists
   pub said : Said V D F P
 
 -- *Chain*: the client of a device and a filter after these exchanges, from what it was before them
-abbrev pub chain : {R V D F P : Type 0} → Server R V D F P → ℕ → F → Option (Client V) → List (Exchange R V D F P) → Option (Client V)
+abbrev pub chain : {V D F P : Type 0} → Server V D F P → ℕ → F → Option (Client V) → List (Exchange V D F P) → Option (Client V)
 chain w device f client [] = client
 chain w device f client (x ∷ xs) =
     chain w device f (cond (nat_eq x.device device) (with_said w (w.user_of device) f (fronts_of x.lists).e x.said client) client) xs
 
 -- *Agrees*: the client holds what the picture at its token has
-pub record Agrees {R V D F P : Type 0} (w : Server R V D F P) (user : List ℕ) (f : F) (lists : Lists R) (c : Client V) : Type 0 where
+pub record Agrees {V D F P : Type 0} (w : Server V D F P) (user : List ℕ) (f : F) (lists : Lists) (c : Client V) : Type 0 where
   pub rooms : (room : RoomId) → HoldsPicture w lists user f c.token c.front room (c.rooms room)
   pub account : (kind : List ℕ) → c.account kind ≡ account_at w lists.accounts user f c.token.a kind

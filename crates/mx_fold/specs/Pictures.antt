@@ -29,7 +29,7 @@ abbrev pub stands : Sieve → List ℕ → List Event → Option Event → Stand
 stands f user es None = Out
 stands f user es (Some e) = standing_by (membership_of e) (map position_of (stripped_of f user es e))
 
-abbrev pub picture : {R V D F P : Type 0} → Server R V D F P → Lists R → List ℕ → F → SyncToken → RoomId → Picture V
+abbrev pub picture : {V D F P : Type 0} → Server V D F P → Lists → List ℕ → F → SyncToken → RoomId → Picture V
 picture w lists user f t room = record {
   standing = cond (w.picks f room) (stands (w.sieve f room) user (events_in lists room) (last_of (is_own user) (room_at (events_in lists room) t.e))) Out;
   timeline = map (λ e. shown (events_in lists room) e t.e) (timeline_shown (w.sieve f room) user (events_in lists room) t.e);
@@ -60,7 +60,7 @@ Shows {V = V} r es b t front p In had =
 Shows r es b t front p (Asked ids) had = (had.joined ≡ None) × (had.invited ≡ Some ids)
 
 -- the client holds of a room what the picture at its token has of it
-abbrev pub HoldsPicture : {R V D F P : Type 0} → Server R V D F P → Lists R → List ℕ → F → SyncToken → ℕ → RoomId → Holding Event Key V → Type 0
+abbrev pub HoldsPicture : {V D F P : Type 0} → Server V D F P → Lists → List ℕ → F → SyncToken → ℕ → RoomId → Holding Event Key V → Type 0
 HoldsPicture w lists user f t front room had =
     Shows (room_of (w.sieve f room) user (events_in lists room)) (events_in lists room) t.b t.e front (picture w lists user f t room)
         (picture w lists user f t room).standing had

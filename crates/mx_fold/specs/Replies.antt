@@ -58,7 +58,7 @@ abbrev pub is_behind : Option SyncToken → SyncToken → Bool
 is_behind None fronts = true
 is_behind (Some t) fronts = is_before t fronts
 
-module _ {R V D F P : Type 0} (w : Server R V D F P) (lists : Lists R) (user : List ℕ) where
+module _ {V D F P : Type 0} (w : Server V D F P) (lists : Lists) (user : List ℕ) where
   -- the heroes of the summary that is sent of a room
   abbrev pub heroes_in : SyncAsk F → RoomId → Key → Bool
   heroes_in ask room = hero_keys (w.heroes user ask.filter room ask.since lists)

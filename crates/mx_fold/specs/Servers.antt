@@ -11,8 +11,8 @@ use Rattle.mx_view.specs.Rooms.{Key, Sieve, PicksByType, story_of}
 use Rattle.mx_view.specs.Tokens.{tokens}
 use Rattle.mx_fold.specs.Lists.{Lists, upto, events_in}
 
--- R are receipts, V and D the view and the delta of the rest of a room, F sync filters and P page filters, both without limits
-pub record Server (R V D F P : Type 0) : Type 0 where
+-- V and D are the view and the delta of the rest of a room, F sync filters and P page filters, both without limits
+pub record Server (V D F P : Type 0) : Type 0 where
   pub user_of : ℕ → List ℕ
   -- global account data that stands where none is stored
   pub defaults : List ℕ → List (List ℕ × Json)
@@ -26,13 +26,13 @@ pub record Server (R V D F P : Type 0) : Type 0 where
   -- the page filter is the timeline filter, with lazy members as in the state filter
   pub fits : F → P → Bool
   -- the rest of a room by the lists up to a token, its change by those up to two, and the heroes of the summary that is sent
-  pub view : List ℕ → F → RoomId → Lists R → V
-  pub delta : List ℕ → F → RoomId → Lists R → Lists R → D
-  pub differs : List ℕ → F → RoomId → Lists R → Lists R → Bool
+  pub view : List ℕ → F → RoomId → Lists → V
+  pub delta : List ℕ → F → RoomId → Lists → Lists → D
+  pub differs : List ℕ → F → RoomId → Lists → Lists → Bool
   pub changed : V → D → V
-  pub heroes : List ℕ → F → RoomId → Option SyncToken → Lists R → List (List ℕ)
+  pub heroes : List ℕ → F → RoomId → Option SyncToken → Lists → List (List ℕ)
 
-abbrev pub rest_of : {R V D F P : Type 0} → Server R V D F P → Lists R → List ℕ → F → RoomId → Rest V D SyncToken
+abbrev pub rest_of : {V D F P : Type 0} → Server V D F P → Lists → List ℕ → F → RoomId → Rest V D SyncToken
 rest_of w lists user f room = record {
   view = λ j. w.view user f room (upto j lists);
   delta = λ i j. w.delta user f room (upto i lists) (upto j lists);
@@ -41,17 +41,17 @@ rest_of w lists user f room = record {
 }
 
 -- a room over these lists, as a user's filter reads it
-abbrev pub story : {R V D F P : Type 0} → Server R V D F P → Lists R → List ℕ → F → RoomId → Story Event Key V D SyncToken
+abbrev pub story : {V D F P : Type 0} → Server V D F P → Lists → List ℕ → F → RoomId → Story Event Key V D SyncToken
 story w lists user f room = story_of (w.sieve f room) (w.picks f room) user (events_in lists room) (rest_of w lists user f room)
 
 -- what the laws ask of the filters
-pub record IsServer {R V D F P : Type 0} (w : Server R V D F P) : Type 0 where
+pub record IsServer {V D F P : Type 0} (w : Server V D F P) : Type 0 where
   pub filters : (f g : F) → w.same_filter f g ≡ true → f ≡ g
   pub by_type : (f : F) → w.folds f ≡ true → (room : RoomId) → PicksByType (w.sieve f room)
   pub pages : (f : F) (p : P) → w.fits f p ≡ true → (room : RoomId)
       → ((w.page_sieve p room).passes ≡ (w.sieve f room).passes) × ((w.page_sieve p room).lazy ≡ (w.sieve f room).lazy)
 
 -- *SectionLaw*, of every room
-abbrev pub RestsFold : {R V D F P : Type 0} → Server R V D F P → Lists R → Type 0
+abbrev pub RestsFold : {V D F P : Type 0} → Server V D F P → Lists → Type 0
 RestsFold {F = F} w lists = (user : List ℕ) (f : F) (room : RoomId)
     → FoldsRest tokens (joined_at (viewer_of user) (events_in lists room)) (rest_of w lists user f room)

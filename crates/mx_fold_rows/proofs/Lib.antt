@@ -5,3 +5,4 @@ pub mod Visible
 pub mod Redacted
 pub mod Lazy
 pub mod Chains
+pub mod Exchanged

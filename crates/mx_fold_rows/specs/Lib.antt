@@ -7,3 +7,4 @@ pub mod Visible
 pub mod Redacted
 pub mod Lazy
 pub mod Chains
+pub mod Exchanged

@@ -1,6 +1,7 @@
 //! The rows: each is a law over literal events.
 
 ghost use Rattle.mx_fold_rows.specs.Said.{SaysMembership, SaysSetting, SaysNames};
+ghost use Rattle.mx_fold_rows.specs.Exchanged.{FirstIsTold, NextIsTold, Begins, TakesPage, PassesPages, PassesReplies, GoesOnFrom, BeginsAnew, HasNotBegun};
 ghost use Rattle.mx_fold_rows.specs.Limits.{LastTen, RestOnePage, RestJustFits, PageOfThree, NoTimeline, LaterState, FullState, NothingNew, NeverThere};
 ghost use Rattle.mx_fold_rows.specs.Stays.{BreakAtHidden, PageOfStay, StateAfter, NoBreakAtDropped, HasLeft, CameBack, IsInvited, LeftSinceToken, LeftLimited, LeftBeforeToken, FirstBase, KeptBase};
 ghost use Rattle.mx_fold_rows.specs.Visible.{SharedSeen, SharedUnseen, JoinAfterFront, JoinedSeen, JoinedPage, WorldReads, WorldDoesnt, WorldReadsSetting, InvitedSees, BannedSees, OtherLeaves, UnsetIsShared, UnknownIsShared, MessageSetsNothing, OtherKeySetsNothing, EmptyKeySets, MessageJoinsNobody, KeyJoins};
@@ -104,4 +105,18 @@ pub fn chains_compute()
     ensures goes_on { GoesOn }
     ensures not_begun { NotBegun }
     ensures page_of_break { PageOfBreak }
+{}
+
+/// The chains of two devices over answers to a connection: which answers a client takes, and what it holds then.
+#[tactic(auto, using(crate::proofs::Exchanged::first_is_told, crate::proofs::Exchanged::next_is_told, crate::proofs::Exchanged::begins, crate::proofs::Exchanged::takes_page, crate::proofs::Exchanged::passes_pages, crate::proofs::Exchanged::passes_replies, crate::proofs::Exchanged::goes_on_from, crate::proofs::Exchanged::begins_anew, crate::proofs::Exchanged::has_not_begun))]
+pub fn exchanges_compute()
+    ensures first_is_told { FirstIsTold }
+    ensures next_is_told { NextIsTold }
+    ensures begins { Begins }
+    ensures takes_page { TakesPage }
+    ensures passes_pages { PassesPages }
+    ensures passes_replies { PassesReplies }
+    ensures goes_on_from { GoesOnFrom }
+    ensures begins_anew { BeginsAnew }
+    ensures has_not_begun { HasNotBegun }
 {}

@@ -1,10 +1,11 @@
 -- What is owed after a reply and after a page was owed before, or is told.
-use Rattle.std.proofs.Common.{◌≡◌, ℕ, ◌<◌, ◌≤◌, Bool, true, false, not, ◌&&◌, ◌||◌, nat_lt, nat_le, ◌⊎◌, List, [], ◌∷◌, ◌++◌, map, refl, ap, ap₂, sym, ◌∙◌, subst, inl, inr, arith, append-nil, ltb-true, ltb-false, lt-ltb, le-ltb}
+use Rattle.std.proofs.Common.{◌≡◌, ℕ, ◌<◌, ◌≤◌, Bool, true, false, not, ◌&&◌, ◌||◌, nat_lt, nat_le, ◌⊎◌, List, [], ◌∷◌, ◌++◌, map, refl, ap, ap₂, sym, ◌∙◌, subst, inl, inr, arith, append-nil, ltb-true, ltb-false, lt-ltb, le-ltb, Some}
 use Rattle.std.proofs.lemmas.Bool.{and_parts, and_from, and_right, or_parts, or_left, or_right, or_cases, true≢false, false≢true}
 use Rattle.std.specs.List.{list_any}
 use Rattle.std.proofs.lemmas.List.Folds.{list_any-append}
 use Rattle.mx_window.proofs.Each.{list_any-map, list_any-same}
-use Rattle.mx_folding.specs.Rooms.{Room, IsRoom}
+use Rattle.mx_folding.proofs.Keys.{has_keyed}
+use Rattle.mx_folding.specs.Rooms.{Room, IsRoom, key_is, has, wrote, mine}
 use Rattle.mx_folding.specs.Redactions.{shown, redact_by}
 use Rattle.mx_folding.specs.Parts.{is_sender, is_omitted, picks, picks_new}
 use Rattle.mx_folding.specs.Clients.{Entry, Held, Open, held, gap_if, redact_entry}
@@ -106,15 +107,15 @@ gap_reply {C = C} p tl limited low q t sent h =
       drop_false false = refl
 
 pub is_sender-append : {E K : Type 0} (r : Room E K) (k : K) (xs ys : List E) → is_sender r (xs ++ ys) k ≡ (is_sender r xs k || is_sender r ys k)
-is_sender-append r k xs ys = list_any-append (r.wrote k) xs ys
+is_sender-append r k xs ys = list_any-append (wrote r k) xs ys
 
 pub is_sender-shown : {E K : Type 0} (r : Room E K) (es : List E) (front : ℕ) (k : K) (xs : List E) → IsRoom r es → is_sender r (map (shown r es front) xs) k ≡ is_sender r xs k
 is_sender-shown r es front k xs room =
-    list_any-map (r.wrote k) (shown r es front) xs ∙ list_any-same (λ e. r.wrote k (shown r es front e)) (r.wrote k) (λ e. shown-wrote r es room front k e) xs
+    list_any-map (wrote r k) (shown r es front) xs ∙ list_any-same (λ e. wrote r k (shown r es front e)) (wrote r k) (λ e. shown-wrote r es room front k e) xs
 
 is_sender-redact : {E K : Type 0} (r : Room E K) (es by : List E) (k : K) (xs : List E) → IsRoom r es → is_sender r (map (redact_by r by) xs) k ≡ is_sender r xs k
 is_sender-redact r es by k xs room =
-    list_any-map (r.wrote k) (redact_by r by) xs ∙ list_any-same (λ e. r.wrote k (redact_by r by e)) (r.wrote k) (λ e. redact_by-wrote r es by room k e) xs
+    list_any-map (wrote r k) (redact_by r by) xs ∙ list_any-same (λ e. wrote r k (redact_by r by e)) (wrote r k) (λ e. redact_by-wrote r es by room k e) xs
 
 gap-redact : {E K : Type 0} (r : Room E K) (by : List E) (p : ℕ) (tl : List (Entry E)) → list_any (is_gap_before p) (map (redact_entry r by) tl) ≡ list_any (is_gap_before p) tl
 gap-redact r by p [] = refl
@@ -123,7 +124,7 @@ gap-redact r by p (Open lower upper front ∷ tl) = ap (λ b. nat_lt front p || 
 
 -- what is owed, from the senders and the gaps of a timeline
 abbrev owed_by : {E K : Type 0} → Room E K → ℕ → ℕ → K → E → Bool → Bool → Bool
-owed_by r b t k v sender gap = not r.lazy || (not (r.member k) || (r.mine k || (sender || ((r.stayed b t && nat_lt b (r.at v)) || gap))))
+owed_by r b t k v sender gap = not r.lazy || (not (r.member k) || (mine r k || (sender || ((r.stayed b t && nat_lt b (r.at v)) || gap))))
 
 -- redactions change nothing of what is owed
 pub owed_redact : {E K : Type 0} (r : Room E K) (es by : List E) (b t : ℕ) (tl : List (Entry E)) (k : K) (v : E) → IsRoom r es → is_owed r b t (map (redact_entry r by) tl) k v ≡ is_owed r b t tl k v
@@ -139,13 +140,13 @@ stayed_before r es b s t v room up upto h =
 
 -- what is owed after a reply and isn't picked lies at or before its token, and was owed before
 pub owed_reply : {E K : Type 0} (r : Room E K) (es : List E) (limited : Bool) (from b s q t : ℕ) (redundant : Bool) (heroes : K → Bool) (sent : List E) (tl : List (Entry E)) (k : K) (v : E) → IsRoom r es
-    → from ≤ s → s ≤ t → r.has k v ≡ true
+    → from ≤ s → s ≤ t → has r k v ≡ true
     → is_owed r b t (tl ++ gap_if limited s q t ++ map Held (map (shown r es t) sent)) k v ≡ true → picks r redundant b s from heroes sent v ≡ false
     → (r.at v ≤ s) × (is_owed r b s tl k v ≡ true)
 owed_reply r es limited from b s q t redundant heroes sent tl k v room first up has owes unpicked =
-    let parts = or_parts (nat_lt from (r.at v)) (r.lazy && (r.member (r.key v) && ((is_sender r sent (r.key v) || heroes (r.key v)) && not (is_omitted r redundant b s v)))) unpicked in
+    let parts = or_parts (nat_lt from (r.at v)) (r.lazy && (key_is r.member (r.key v) && ((key_is (is_sender r sent) (r.key v) || key_is heroes (r.key v)) && not (is_omitted r redundant b s v)))) unpicked in
     let upto : r.at v ≤ from = ltb-false from (r.at v) parts.0 in
-    let key : r.key v ≡ k = room.keyed k v has in
+    let key : r.key v ≡ Some k = has_keyed r es room k v has in
     let senders : is_sender r (held (tl ++ gap_if limited s q t ++ map Held (map (shown r es t) sent))) k ≡ (is_sender r (held tl) k || is_sender r sent k) =
     ap (λ l. is_sender r l k) (held_reply tl limited s q t (map (shown r es t) sent)) ∙ is_sender-append r k (held tl) (map (shown r es t) sent)
     ∙ ap (λ x. is_sender r (held tl) k || x) (is_sender-shown r es t k sent room) in
@@ -153,9 +154,9 @@ owed_reply r es limited from b s q t redundant heroes sent tl k v room first up 
     let owes' : owed_by r b t k v (is_sender r (held tl) k || is_sender r sent k) (list_any (is_gap_before (r.at v)) tl) ≡ true =
     sym (ap₂ (owed_by r b t k v) senders gaps) ∙ owes in
     let unpicked' : (r.lazy && (r.member k && ((is_sender r sent k || heroes k) && not (is_omitted r redundant b s v)))) ≡ false =
-    subst (λ x. (r.lazy && (r.member x && ((is_sender r sent x || heroes x) && not (is_omitted r redundant b s v)))) ≡ false) key parts.1 in (
+    subst (λ x. (r.lazy && (key_is r.member x && ((key_is (is_sender r sent) x || key_is heroes x) && not (is_omitted r redundant b s v)))) ≡ false) key parts.1 in (
       omega arith,
-      owed_table r.lazy (r.member k) (r.mine k) (is_sender r (held tl) k) (is_sender r sent k) (heroes k) (is_omitted r redundant b s v) (r.stayed b t && nat_lt b (r.at v)) (r.stayed b s && nat_lt b (r.at v))
+      owed_table r.lazy (r.member k) (mine r k) (is_sender r (held tl) k) (is_sender r sent k) (heroes k) (is_omitted r redundant b s v) (r.stayed b t && nat_lt b (r.at v)) (r.stayed b s && nat_lt b (r.at v))
           (list_any (is_gap_before (r.at v)) tl)
           (stayed_before r es b s t v room up (omega arith))
           (λ o. (and_parts (nat_le (r.at v) s) (r.stayed b s && nat_lt b (r.at v)) (and_parts (not redundant) (nat_le (r.at v) s && (r.stayed b s && nat_lt b (r.at v))) o).1).1)
@@ -164,17 +165,17 @@ owed_reply r es limited from b s q t redundant heroes sent tl k v room first up 
 
 -- what is owed after a new room's part is picked
 pub owed_new : {E K : Type 0} (r : Room E K) (es : List E) (limited : Bool) (b q t : ℕ) (heroes : K → Bool) (sent : List E) (k : K) (v : E) → IsRoom r es → (r.stayed b t ≡ true → t ≤ b)
-    → r.has k v ≡ true → r.at v ≤ t
+    → has r k v ≡ true → r.at v ≤ t
     → is_owed r b t (gap_if limited 0 q t ++ map Held (map (shown r es t) sent)) k v ≡ true → picks_new r heroes sent v ≡ false → ⊥
 owed_new r es limited b q t heroes sent k v room vacuous has upto owes unpicked =
-    let key : r.key v ≡ k = room.keyed k v has in
+    let key : r.key v ≡ Some k = has_keyed r es room k v has in
     let senders : is_sender r (held (gap_if limited 0 q t ++ map Held (map (shown r es t) sent))) k ≡ is_sender r sent k =
     ap (λ l. is_sender r l k) (held_reply [] limited 0 q t (map (shown r es t) sent)) ∙ is_sender-shown r es t k sent room in
     let gaps : list_any (is_gap_before (r.at v)) (gap_if limited 0 q t ++ map Held (map (shown r es t) sent)) ≡ false = gap_reply (r.at v) [] limited 0 q t (map (shown r es t) sent) upto in
     let owes' : owed_by r b t k v (is_sender r sent k) false ≡ true = sym (ap₂ (owed_by r b t k v) senders gaps) ∙ owes in
-    let unpicked' : (not r.lazy || (not (r.member k) || (r.mine k || (is_sender r sent k || heroes k)))) ≡ false =
-    subst (λ x. (not r.lazy || (not (r.member x) || (r.mine x || (is_sender r sent x || heroes x)))) ≡ false) key unpicked in
-    let left : ((r.stayed b t && nat_lt b (r.at v)) || false) ≡ true = new_table r.lazy (r.member k) (r.mine k) (is_sender r sent k) (heroes k) (r.stayed b t && nat_lt b (r.at v)) false owes' unpicked' in
+    let unpicked' : (not r.lazy || (not (r.member k) || (mine r k || (is_sender r sent k || heroes k)))) ≡ false =
+    subst (λ x. (not r.lazy || (not (key_is r.member x) || (key_is (mine r) x || (key_is (is_sender r sent) x || key_is heroes x)))) ≡ false) key unpicked in
+    let left : ((r.stayed b t && nat_lt b (r.at v)) || false) ≡ true = new_table r.lazy (r.member k) (mine r k) (is_sender r sent k) (heroes k) (r.stayed b t && nat_lt b (r.at v)) false owes' unpicked' in
     elim (or_cases (r.stayed b t && nat_lt b (r.at v)) false left) [
       | inl a ↦ let parts = and_parts (r.stayed b t) (nat_lt b (r.at v)) a in let l : t ≤ b = vacuous parts.0 in let m : b < r.at v = ltb-true b (r.at v) parts.1 in absurd (omega arith)
       | inr a ↦ absurd (false≢true a)
@@ -187,7 +188,7 @@ owed_late r b t lower upper g before behind k v h =
     gap-append (r.at v) before (Open lower upper g ∷ behind)
     ∙ or_right (list_any (is_gap_before (r.at v)) before) (nat_lt g (r.at v) || list_any (is_gap_before (r.at v)) behind) (or_left (nat_lt g (r.at v)) (list_any (is_gap_before (r.at v)) behind) (lt-ltb g (r.at v) h)) in
     ap (owed_by r b t k v (is_sender r (held (before ++ Open lower upper g ∷ behind)) k)) gap
-    ∙ late_table r.lazy (r.member k) (r.mine k) (is_sender r (held (before ++ Open lower upper g ∷ behind)) k) (r.stayed b t && nat_lt b (r.at v))
+    ∙ late_table r.lazy (r.member k) (mine r k) (is_sender r (held (before ++ Open lower upper g ∷ behind)) k) (r.stayed b t && nat_lt b (r.at v))
 
 pub held_page : {C : Type 0} (before behind : List (Entry C)) (more : Bool) (low mid g : ℕ) (sent : List C) → held (before ++ gap_if more low mid g ++ map Held sent ++ behind) ≡ held before ++ sent ++ held behind
 held_page before behind more low mid g sent =
@@ -212,11 +213,11 @@ gap_page {C = C} p before behind more low mid upper g sent h =
     ∙ gap_table (list_any (is_gap_before p) before) (list_any (is_gap_before p) behind) more (nat_lt g p) (sym joined ∙ h)
 
 -- what is owed after a page was owed before, or is a member that the page sends
-pub owed_page : {E K : Type 0} (r : Room E K) (es : List E) (front b t low mid upper g : ℕ) (more : Bool) (sent : List E) (before behind : List (Entry E)) (k : K) (v : E) → IsRoom r es → r.has k v ≡ true
+pub owed_page : {E K : Type 0} (r : Room E K) (es : List E) (front b t low mid upper g : ℕ) (more : Bool) (sent : List E) (before behind : List (Entry E)) (k : K) (v : E) → IsRoom r es → has r k v ≡ true
     → is_owed r b t (before ++ gap_if more low mid g ++ map Held (map (shown r es front) sent) ++ behind) k v ≡ true
-    → (is_owed r b t (before ++ Open low upper g ∷ behind) k v ≡ true) ⊎ ((r.lazy && (r.member (r.key v) && is_sender r sent (r.key v))) ≡ true)
+    → (is_owed r b t (before ++ Open low upper g ∷ behind) k v ≡ true) ⊎ ((r.lazy && (key_is r.member (r.key v) && key_is (is_sender r sent) (r.key v))) ≡ true)
 owed_page r es front b t low mid upper g more sent before behind k v room has owes =
-    let key : r.key v ≡ k = room.keyed k v has in
+    let key : r.key v ≡ Some k = has_keyed r es room k v has in
     let senders : is_sender r (held (before ++ gap_if more low mid g ++ map Held (map (shown r es front) sent) ++ behind)) k ≡ ((is_sender r (held before) k || is_sender r sent k) || is_sender r (held behind) k) =
     ap (λ l. is_sender r l k) (held_page before behind more low mid g (map (shown r es front) sent))
     ∙ is_sender-append r k (held before ++ map (shown r es front) sent) (held behind)
@@ -226,8 +227,8 @@ owed_page r es front b t low mid upper g more sent before behind k v room has ow
     let new_gap : Bool = list_any (is_gap_before (r.at v)) (before ++ gap_if more low mid g ++ map Held (map (shown r es front) sent) ++ behind) in
     let old_gap : Bool = list_any (is_gap_before (r.at v)) (before ++ Open low upper g ∷ behind) in
     let owes' : owed_by r b t k v ((is_sender r (held before) k || is_sender r sent k) || is_sender r (held behind) k) new_gap ≡ true = sym (ap (λ x. owed_by r b t k v x new_gap) senders) ∙ owes in
-    elim (page_table r.lazy (r.member k) (r.mine k) (is_sender r (held before) k) (is_sender r (held behind) k) (is_sender r sent k) (r.stayed b t && nat_lt b (r.at v)) old_gap new_gap
+    elim (page_table r.lazy (r.member k) (mine r k) (is_sender r (held before) k) (is_sender r (held behind) k) (is_sender r sent k) (r.stayed b t && nat_lt b (r.at v)) old_gap new_gap
     (gap_page (r.at v) before behind more low mid upper g (map (shown r es front) sent)) owes') [
       | inl a ↦ inl (ap (λ x. owed_by r b t k v x old_gap) olds ∙ a)
-      | inr a ↦ inr (subst (λ x. (r.lazy && (r.member x && is_sender r sent x)) ≡ true) (sym key) a)
+      | inr a ↦ inr (subst (λ x. (r.lazy && (key_is r.member x && key_is (is_sender r sent) x)) ≡ true) (sym key) a)
     ]

@@ -6,7 +6,7 @@ use Rattle.std.specs.List.{list_any, AllByRecursion}
 use Rattle.mx_window.specs.Windows.{between}
 use Rattle.mx_window.proofs.Each.{AllByRecursion-map, AllByRecursion-append, AllByRecursion-weaker, AllByRecursion-filter, filter-same}
 use Rattle.mx_window.proofs.Intervals.{between-within}
-use Rattle.mx_folding.specs.Rooms.{Room, state_at}
+use Rattle.mx_folding.specs.Rooms.{Room, state_at, mine}
 use Rattle.mx_folding.specs.Sections.{sendable}
 use Rattle.mx_folding.specs.Redactions.{redact_by}
 use Rattle.mx_folding.specs.Parts.{is_sender}
@@ -111,7 +111,7 @@ owed_all true true rest h = absurd (true≢false h)
 pub holds_the_state : {E K : Type 0} → HoldsTheState E K
 holds_the_state r es b t tl state agrees k h =
     same_state r.at (state k) (state_at r es t k) (agrees.right k)
-    (λ v is. agrees.enough k v is (owed_all r.lazy (r.member k) (r.mine k || (is_sender r (held tl) k || ((r.stayed b t && nat_lt b (r.at v)) || list_any (is_gap_before (r.at v)) tl))) h))
+    (λ v is. agrees.enough k v is (owed_all r.lazy (r.member k) (mine r k || (is_sender r (held tl) k || ((r.stayed b t && nat_lt b (r.at v)) || list_any (is_gap_before (r.at v)) tl))) h))
 
 pub holds_all : {E K : Type 0} → HoldsAll E K
 holds_all r es t cs agrees = sym (filled-held r.at (pictured r es t) cs) ∙ agrees.whole

@@ -1,7 +1,7 @@
 -- When a client's room agrees with the picture of the room at its token: what one unlimited initial sync there shows.
 use Rattle.std.specs.Prelude.{◌≡◌, ℕ, ◌<◌, ◌≤◌, ◌⊎◌, Bool, true, false, not, ◌&&◌, ◌||◌, List, [], ◌∷◌, ◌++◌, map, Option, Some, option_map, nat_lt}
 use Rattle.std.specs.List.{list_any, AllByRecursion, Contains}
-use Rattle.mx_folding.specs.Rooms.{Room, state_at}
+use Rattle.mx_folding.specs.Rooms.{Room, state_at, mine}
 use Rattle.mx_folding.specs.Sections.{sendable}
 use Rattle.mx_folding.specs.Redactions.{is_named, is_redacted}
 use Rattle.mx_folding.specs.Parts.{is_sender}
@@ -42,7 +42,7 @@ is_gap_before p (Open lower upper front) = nat_lt front p
 -- front of an open gap
 abbrev pub is_owed : {E K : Type 0} → Room E K → ℕ → ℕ → List (Entry E) → K → E → Bool
 is_owed r b t timeline k v =
-    not r.lazy || (not (r.member k) || (r.mine k || (is_sender r (held timeline) k
+    not r.lazy || (not (r.member k) || (mine r k || (is_sender r (held timeline) k
     || ((r.stayed b t && nat_lt b (r.at v)) || list_any (is_gap_before (r.at v)) timeline))))
 
 -- a copy of an event of the list, as it was or redacted

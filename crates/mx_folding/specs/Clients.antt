@@ -2,7 +2,7 @@
 use Rattle.std.specs.Prelude.{ℕ, Bool, cond, List, [], ◌∷◌, ◌++◌, map, Option, None, option_map}
 use Rattle.std.specs.Option.{option_or}
 use Rattle.mx_window.specs.Lasts.{last_of}
-use Rattle.mx_folding.specs.Rooms.{Room}
+use Rattle.mx_folding.specs.Rooms.{Room, has}
 use Rattle.mx_folding.specs.Redactions.{redact_by}
 use Rattle.mx_folding.specs.Parts.{Part, Page}
 
@@ -27,11 +27,11 @@ empty_room E K = record { state = λ k. None; timeline = [] }
 
 -- each event is put under its key
 abbrev pub put_all : {E K : Type 0} → Room E K → List E → (K → Option E) → K → Option E
-put_all r es state k = option_or (last_of (r.has k) es) (state k)
+put_all r es state k = option_or (last_of (has r k) es) (state k)
 
 -- each event is put under its key, where none is held there
 abbrev pub put_new : {E K : Type 0} → Room E K → List E → (K → Option E) → K → Option E
-put_new r es state k = option_or (state k) (last_of (r.has k) es)
+put_new r es state k = option_or (state k) (last_of (has r k) es)
 
 abbrev pub gap_if : {C : Type 0} → Bool → ℕ → ℕ → ℕ → List (Entry C)
 gap_if open_still low high front = cond open_still (Open low high front ∷ []) []

@@ -4,21 +4,21 @@ use Rattle.std.specs.Prelude.{ℕ, Bool, cond, not, ◌&&◌, ◌||◌, List, []
 use Rattle.std.specs.List.{filter, list_any}
 use Rattle.mx_window.specs.Windows.{between, before_first}
 use Rattle.mx_window.specs.Lasts.{current}
-use Rattle.mx_folding.specs.Rooms.{Room}
+use Rattle.mx_folding.specs.Rooms.{Room, key_is, is_state, is_kept, sets_same, wrote, mine}
 use Rattle.mx_folding.specs.Sections.{sendable, section, cut, is_limited, chunk}
 use Rattle.mx_folding.specs.Redactions.{shown}
 
 -- a sender of these events has the member key
 abbrev pub is_sender : {E K : Type 0} → Room E K → List E → K → Bool
-is_sender r sent k = list_any (r.wrote k) sent
+is_sender r sent k = list_any (wrote r k) sent
 
 -- the state at a position, as a list in order of position
 abbrev pub state_list : {E K : Type 0} → Room E K → List E → ℕ → List E
-state_list r es p = filter r.is_state (current r.same (between r.at 0 p es))
+state_list r es p = filter (is_state r) (current (sets_same r) (between r.at 0 p es))
 
 -- of the state at q, what the filter passes and is picked
 abbrev pub state_part : {E K : Type 0} → Room E K → List E → (E → Bool) → ℕ → List E
-state_part r es pick q = filter pick (filter r.keeps (state_list r es q))
+state_part r es pick q = filter pick (filter (is_kept r) (state_list r es q))
 
 -- a lazy member event that the client is known to hold: it came after b and at or before the token, and the user was
 -- joined all that time
@@ -29,11 +29,11 @@ is_omitted r redundant b since e = not redundant && (nat_le (r.at e) since && (r
 -- members the member events of the section's senders and of the heroes, less those omitted
 abbrev pub picks : {E K : Type 0} → Room E K → Bool → ℕ → ℕ → ℕ → (K → Bool) → List E → E → Bool
 picks r redundant b since from heroes sent e =
-    nat_lt from (r.at e) || (r.lazy && (r.member (r.key e) && ((is_sender r sent (r.key e) || heroes (r.key e)) && not (is_omitted r redundant b since e))))
+    nat_lt from (r.at e) || (r.lazy && (key_is r.member (r.key e) && ((key_is (is_sender r sent) (r.key e) || key_is heroes (r.key e)) && not (is_omitted r redundant b since e))))
 
 -- a new room's reply picks all, but with lazy members of the member events only the user's own, the senders' and the heroes'
 abbrev pub picks_new : {E K : Type 0} → Room E K → (K → Bool) → List E → E → Bool
-picks_new r heroes sent e = not r.lazy || (not (r.member (r.key e)) || (r.mine (r.key e) || (is_sender r sent (r.key e) || heroes (r.key e))))
+picks_new r heroes sent e = not r.lazy || (not (key_is r.member (r.key e)) || (key_is (mine r) (r.key e) || (key_is (is_sender r sent) (r.key e) || key_is heroes (r.key e))))
 
 -- what a reply says of one room
 pub record Part (E : Type 0) : Type 0 where
@@ -67,6 +67,6 @@ abbrev pub page_of : {E K : Type 0} → Room E K → List E → ℕ → ℕ → 
 page_of r es limit g e low high = record {
   more = nat_lt (length (chunk r es limit e low high)) (length (sendable r es e low high));
   end = before_first r.at high (chunk r es limit e low high);
-  members = cond r.lazy (map (shown r es e) (filter (λ v. r.member (r.key v) && is_sender r (chunk r es limit e low high) (r.key v)) (state_list r es g))) [];
+  members = cond r.lazy (map (shown r es e) (filter (λ v. key_is r.member (r.key v) && key_is (is_sender r (chunk r es limit e low high)) (r.key v)) (state_list r es g))) [];
   sent = map (shown r es e) (chunk r es limit e low high);
 }

@@ -4,7 +4,7 @@ use Rattle.std.specs.Prelude.{ℕ, Bool, cond, not, ◌&&◌, List, length, nat_
 use Rattle.std.specs.List.{filter}
 use Rattle.mx_window.specs.Windows.{between, before_first}
 use Rattle.mx_window.specs.Lasts.{last_of, last_at, last}
-use Rattle.mx_folding.specs.Rooms.{Room}
+use Rattle.mx_folding.specs.Rooms.{Room, is_kept}
 
 -- the events of the window that may be sent
 abbrev pub sendable : {E K : Type 0} → Room E K → List E → ℕ → ℕ → ℕ → List E
@@ -12,7 +12,7 @@ sendable r es front low high = filter (r.sends front) (between r.at low high es)
 
 -- the last state event of the window that the state filter passes and that may not be sent; else the window's lower end
 abbrev pub break_at : {E K : Type 0} → Room E K → List E → ℕ → ℕ → ℕ → ℕ
-break_at r es front low high = last_at r.at low (last_of (λ e. r.keeps e && not (r.sends front e)) (between r.at low high es))
+break_at r es front low high = last_at r.at low (last_of (λ e. is_kept r e && not (r.sends front e)) (between r.at low high es))
 
 -- the last `limit` events that may be sent, above the break; with the state after the timeline there is no break
 abbrev pub section : {E K : Type 0} → Room E K → List E → Bool → ℕ → ℕ → ℕ → ℕ → List E

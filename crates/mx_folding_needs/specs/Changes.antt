@@ -1,7 +1,7 @@
 -- The folding law of one room, with one definition changed, with a weaker agreement, or at any b.
 use Rattle.std.specs.Prelude.{◌≡◌, ℕ, ◌≤◌, Bool, true, false, not, ◌&&◌, ◌||◌, List, [], ◌∷◌, ◌++◌, map, Option, Some, nat_lt, nat_le, ⊤}
 use Rattle.std.specs.List.{AllByRecursion}
-use Rattle.mx_folding.specs.Rooms.{Room, IsRoom, StaysSent}
+use Rattle.mx_folding.specs.Rooms.{Room, IsRoom, StaysSent, key_is}
 use Rattle.mx_folding.specs.Sections.{section}
 use Rattle.mx_folding.specs.Redactions.{is_named, shown}
 use Rattle.mx_folding.specs.Parts.{is_sender, state_part, picks_new, Part, part_of, Page, page_of}
@@ -19,11 +19,13 @@ Omission E K = Room E K → Bool → ℕ → ℕ → E → Bool
 -- `picks`, by an omission
 abbrev pub picks_by : {E K : Type 0} → Omission E K → Room E K → Bool → ℕ → ℕ → ℕ → (K → Bool) → List E → E → Bool
 picks_by omits r redundant b since from heroes sent e =
-    nat_lt from (r.at e) || (r.lazy && (r.member (r.key e) && ((is_sender r sent (r.key e) || heroes (r.key e)) && not (omits r redundant b since e))))
+    nat_lt from (r.at e) || (r.lazy && (key_is r.member (r.key e)
+    && ((key_is (is_sender r sent) (r.key e) || key_is heroes (r.key e)) && not (omits r redundant b since e))))
 
 -- `FoldsReply`, by an agreement and an omission
 abbrev pub FoldsReplyBy : (E K : Type 0) → Agreement E K → Omission E K → Type 0
-FoldsReplyBy E K Agree omits = (r : Room E K) (es : List E) → IsRoom r es → (after : Bool) (limit from s t front front' b : ℕ) (redundant : Bool) (heroes : K → Bool) (room : ClientRoom E K)
+FoldsReplyBy E K Agree omits = (r : Room E K) (es : List E) → IsRoom r es → (after : Bool)
+    (limit from s t front front' b : ℕ) (redundant : Bool) (heroes : K → Bool) (room : ClientRoom E K)
     → StaysSent r es s → from ≤ s → s ≤ t → front ≤ front' → t ≤ front' → Agree r es b s front room
     → Agree r es b t front' (with_part r after s t (part_of r es after limit t s t (picks_by omits r redundant b s from heroes)) room)
 
@@ -40,7 +42,8 @@ at_upper upper cut = upper
 
 -- `FoldsPage`, by an agreement, by what a client does with a page, and by where its lazy members are of
 abbrev pub FoldsPageBy : (E K : Type 0) → Agreement E K → Taking E K → (ℕ → ℕ → ℕ) → Type 0
-FoldsPageBy E K Agree take members = (r : Room E K) (es : List E) → IsRoom r es → (limit b t front front' e lower upper g : ℕ) (before behind : List (Entry E)) (state : K → Option E)
+FoldsPageBy E K Agree take members = (r : Room E K) (es : List E) → IsRoom r es
+    → (limit b t front front' e lower upper g : ℕ) (before behind : List (Entry E)) (state : K → Option E)
     → StaysSent r es t → t ≤ e → e ≤ front' → front ≤ front'
     → Agree r es b t front (record { state = state; timeline = before ++ Open lower upper g ∷ behind })
     → Agree r es b t front' (take r lower g before behind (page_of r es limit (members upper g) e lower upper) state)

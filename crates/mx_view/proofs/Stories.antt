@@ -1,63 +1,70 @@
 -- A valid list of a room's events is a story.
-use Rattle.std.proofs.Common.{◌≡◌, ℕ, Bool, true, false, ◌&&◌, List, [], Option, Some, None, is_some, unwrap_or, refl, ap, sym, ◌∙◌}
+use Rattle.std.proofs.Common.{◌≡◌, ◌↔◌, ℕ, Bool, true, false, ◌&&◌, List, [], Option, Some, None, option_map, refl, ap, sym, ◌∙◌}
+use Rattle.std.proofs.lemmas.Option.{same_Some, none-some}
+use Rattle.std.specs.Str.{bytes_eq}
 use Rattle.std.proofs.lemmas.Bool.{and_parts, and_from}
 use Rattle.std.proofs.lemmas.Slice.Eq.{bytes_eq-Decides}
 use Rattle.mx_window.specs.Windows.{between}
 use Rattle.mx_window.proofs.Each.{AllByRecursion-weaker}
-use Rattle.mx_event.specs.Kinds.{has_key, is_of, is_text}
+use Rattle.mx_event.specs.Kinds.{has_key, is_text}
 use Rattle.mx_event.specs.Shown.{position_of}
 use Rattle.mx_event.specs.declared.event.Event.{Event}
 use Rattle.mx_event.proofs.Stays.{redacts_once}
 use Rattle.mx_event.specs.Valid.{IsValid}
-use Rattle.mx_folding.specs.Rooms.{IsRoom}
+use Rattle.mx_folding.specs.Rooms.{IsRoom, key_is}
 use Rattle.mx_folding.specs.Visible.{is_visible}
 use Rattle.mx_folding.proofs.Chains.{chains_fold}
 use Rattle.mx_folding.proofs.Sees.{stays_visible, stayed_joined_less, stayed_joined_at}
 use Rattle.mx_view.specs.Readings.{viewer_of}
-use Rattle.mx_view.specs.Rooms.{Key, key_of, Sieve, PicksByType, room_of}
+use Rattle.mx_view.specs.Rooms.{Key, key_of, same_key, Sieve, PicksByType, room_of}
 use Rattle.mx_view.specs.Valid.{stories, ValidIsStory, ValidFolds}
 use Rattle.mx_view.proofs.Names.{red_named}
 use Rattle.mx_view.proofs.Listed.{all_earlier, all_kinds}
 
-text_is : (text : List ℕ) (o : Option (List ℕ)) → is_text text o ≡ true → (is_some o ≡ true) × (unwrap_or o [] ≡ text)
-text_is text None is = absurd cc
-text_is text (Some found) is = (refl, (bytes_eq-Decides found text).0 is)
-
--- an event with a key is a state event of that type and state key
-key_is : (k : Key) (e : Event) → has_key k.0 k.1 e ≡ true → (is_some e.state_key ≡ true) × (key_of e ≡ k)
-key_is k e h =
-    let parts = and_parts (is_of k.0 e) (is_text k.1 e.state_key) h in
-    let kind : e.kind ≡ k.0 = (bytes_eq-Decides e.kind k.0).0 parts.0 in
-    let key = text_is k.1 e.state_key parts.1 in
-    (key.0, λ i. (kind i, key.1 i))
+-- the event under a key is the state event of that type and state key
+pub under_key : (k : Key) (e : Event) → key_is (same_key k) (key_of e) ≡ has_key k.0 k.1 e
+under_key k e = by e.state_key where
+  by : (o : Option (List ℕ)) → key_is (same_key k) (option_map (λ key. (e.kind, key)) o) ≡ (bytes_eq e.kind k.0 && is_text k.1 o)
+  by None = sym (and_false (bytes_eq e.kind k.0)) where
+    and_false : (a : Bool) → (a && false) ≡ false
+    and_false true = refl
+    and_false false = refl
+  by (Some key) = refl
 
 -- its type is that of the key
 pub kind_of : (k : Key) (e : Event) → has_key k.0 k.1 e ≡ true → e.kind ≡ k.0
-kind_of k e h = ap (λ (p : Key). p.0) (key_is k e h).1
+kind_of k e h = (bytes_eq-Decides e.kind k.0).0 (and_parts (bytes_eq e.kind k.0) (is_text k.1 e.state_key) h).0
+
+-- the type of an event that has a key
+keyed : (kind : List ℕ) (o : Option (List ℕ)) (k : Key) → ◌≡◌ {A = Option Key} (option_map (λ key. (kind, key)) o) (Some k) → kind ≡ k.0
+keyed kind None k is = absurd (none-some k is)
+keyed kind (Some key) k is = ap (λ (p : Key). p.0) (same_Some (kind, key) k is)
+
+one_equality : (k l : Key) → (same_key k l ≡ true) ↔ (k ≡ l)
+one_equality k l = (
+  λ h.
+      let parts = and_parts (bytes_eq l.0 k.0) (bytes_eq l.1 k.1) h in
+      let kind : l.0 ≡ k.0 = (bytes_eq-Decides l.0 k.0).0 parts.0 in
+      let key : l.1 ≡ k.1 = (bytes_eq-Decides l.1 k.1).0 parts.1 in
+      λ i. (sym kind i, sym key i),
+  λ is.
+      and_from (bytes_eq l.0 k.0) (bytes_eq l.1 k.1)
+      ((bytes_eq-Decides l.0 k.0).1 (ap (λ (p : Key). p.0) (sym is))) ((bytes_eq-Decides l.1 k.1).1 (ap (λ (p : Key). p.1) (sym is))),
+)
 
 room_is : (f : Sieve) → PicksByType f → (user : List ℕ) (es : List Event) → IsValid es → IsRoom (room_of f user es) es
 room_is f by_type user es valid = record {
   ascends = valid.ascends;
-  kept = λ k e h.
-      let parts = and_parts (has_key k.0 k.1 e) (f.keeps_type k.0) h in
-      let key = key_is k e parts.0 in
-      and_from (is_some e.state_key) (f.keeps e) key.0 (by_type e ∙ ap (λ (p : Key). f.keeps_type p.0) key.1 ∙ parts.1);
-  state = λ k e h. (key_is k e (and_parts (has_key k.0 k.1 e) (f.keeps_type k.0) h).0).0;
-  keyed = λ k e h. (key_is k e (and_parts (has_key k.0 k.1 e) (f.keeps_type k.0) h).0).1;
-  one_key = λ k e d h.
-      let parts = and_parts (has_key k.0 k.1 e) (f.keeps_type k.0) h in
-      ap (λ (p : Key). has_key p.0 p.1 d) (key_is k e parts.0).1 ∙ sym (and_true (has_key k.0 k.1 d) (f.keeps_type k.0) parts.1);
+  keys = one_equality;
+  kept = λ k e is. by_type e ∙ ap f.keeps_type (keyed e.kind e.state_key k is);
   red_at = λ e. refl;
-  red_has = λ k e. refl;
+  red_key = λ e. refl;
+  red_sender = λ e. refl;
   red_names = red_named;
-  red_wrote = λ k e. refl;
   red_red = redacts_once;
   earlier = all_earlier 0 [] es tt valid.ascends valid.valid;
   stayed_less = λ b s t low high h. stayed_joined_less (viewer_of user) es b s t low high h;
-} where
-  and_true : (a b : Bool) → b ≡ true → (a && b) ≡ a
-  and_true true b h = h
-  and_true false b h = refl
+}
 
 pub valid_is_story : {V D T : Type 0} → ValidIsStory V D T
 valid_is_story k f by_type picked user es valid rest folds = record {

@@ -1,4 +1,4 @@
-use Rattle.mx_folding.proofs.event_laws.stays_visible.Goals as goal
+use Rattle.mx_folding.proofs.visible_laws.stays_visible.Goals as goal
 use Rattle.mx_folding.proofs.Sees as law
 
 pub returns : goal.returns
