@@ -3,8 +3,6 @@
 
 mod account_data;
 mod entry;
-#[cfg(test)]
-mod tests;
 mod values;
 
 pub use account_data::data_of;

@@ -11,8 +11,6 @@ mod places;
 mod rules;
 mod state;
 mod taken;
-#[cfg(test)]
-mod tests;
 
 pub use denial::{Denial, allowed};
 pub use levels::level;

@@ -6,8 +6,6 @@ mod history;
 mod laws;
 mod machine;
 mod placed;
-#[cfg(test)]
-mod tests;
 
 pub use history::Stored;
 pub use laws::{

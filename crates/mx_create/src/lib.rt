@@ -9,8 +9,6 @@ mod fault;
 mod invited;
 mod laws;
 mod preset;
-#[cfg(test)]
-mod tests;
 
 pub use admission::admit_block;
 pub use body::is_create_body;

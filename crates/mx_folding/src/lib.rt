@@ -21,6 +21,3 @@ pub use room_laws::{
     folds_new, folds_nothing, folds_page, folds_reply, holds_all, holds_the_rest, holds_the_state,
     section_is_window, sent_is_visible,
 };
-
-#[cfg(test)]
-mod tests;

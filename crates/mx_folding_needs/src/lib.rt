@@ -14,6 +14,3 @@ pub use changes::{
 pub use premises::{
     all_are_asked, needs_joined, needs_keys, needs_order, needs_page, needs_redaction, needs_rest,
 };
-
-#[cfg(test)]
-mod tests;

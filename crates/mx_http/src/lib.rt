@@ -2,8 +2,6 @@
 #![tactic(auto)]
 
 mod answer;
-#[cfg(test)]
-mod answer_tests;
 mod call;
 mod fault;
 mod fields;
@@ -17,13 +15,11 @@ mod requests;
 mod stage;
 mod start;
 mod target;
-#[cfg(test)]
-mod tests;
 
 pub use answer::{Answer, Body, WriteFault, write_answer};
 pub use call::Call;
 pub use fault::HttpFault;
 pub use laws::calls_are_determined;
-pub use parameters::query;
+pub use parameters::{access_token, parameter, path, path_parts, query};
 pub use requests::Reader;
 pub use start::reader;

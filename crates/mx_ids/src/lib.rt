@@ -10,8 +10,6 @@ mod room_id;
 mod seq;
 mod server_part;
 mod sync_token;
-#[cfg(test)]
-mod tests;
 mod text;
 mod user;
 mod users;

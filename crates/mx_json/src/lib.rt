@@ -9,8 +9,6 @@ mod members;
 mod numbers;
 mod reader;
 mod size;
-#[cfg(test)]
-mod tests;
 mod value;
 mod writer;
 

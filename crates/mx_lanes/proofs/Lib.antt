@@ -1,3 +1,4 @@
 pub mod Books
 pub mod Orders
 pub mod Stands
+pub mod Walk

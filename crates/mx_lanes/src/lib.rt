@@ -7,8 +7,6 @@ mod laws;
 mod order;
 mod parts;
 mod room;
-#[cfg(test)]
-mod tests;
 
 pub use book::Book;
 pub use laws::{book_stands_for_one_history, book_stands_still, book_stands_with_one_store_more};

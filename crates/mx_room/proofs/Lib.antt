@@ -3,7 +3,7 @@ mod Earlier
 mod Events
 mod Finding
 pub mod Lawful
-mod Positions
+pub mod Positions
 mod Sending
 pub mod Standing
 pub mod Taking

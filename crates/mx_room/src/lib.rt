@@ -8,8 +8,6 @@ mod laws;
 mod ledger;
 mod room_book;
 mod rooms;
-#[cfg(test)]
-mod tests;
 mod txns;
 
 pub use admitted::{Admitted, Ready};

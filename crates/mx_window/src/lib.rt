@@ -12,6 +12,3 @@ pub use laws::{
     current_by_key, last_of_joined, latest_are_window, none_passes_after_last, windows_join,
     windows_nest,
 };
-
-#[cfg(test)]
-mod tests;

@@ -1,26 +1,9 @@
 //! The sync engine of a Matrix homeserver for local users.
 #![tactic(auto)]
 
-mod answer;
-mod answered;
-mod asked;
-mod body;
-mod chains;
-mod connection;
-mod entries;
-mod refusal;
-mod respond;
-mod run;
-mod sync_query;
-#[cfg(test)]
-mod tests;
-mod texts;
-mod users_file;
-mod words;
-
 use mx_ids::Memory;
 use mx_outside::{HostFiles, StdErr, StdIn, StdOut};
-use run::{Status, run};
+use mx_serve::{Status, run};
 use std::env;
 use std::io::ErrorKind;
 use std::process::ExitCode;

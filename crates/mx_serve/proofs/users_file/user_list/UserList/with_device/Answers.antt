@@ -1,0 +1,14 @@
+use Rattle.mx_ids.specs.declared.users.Device.{Device}
+use Rattle.mx_serve.proofs.Indices.{named_after, tokened_after}
+use Rattle.mx_serve.proofs.users_file.user_list.UserList.with_device.Goals as goal
+
+pub invariant_of-result : goal.invariant_of-result
+invariant_of-result c =
+    let d : Device = record { user = c.args.user; name = c.args.name; token = c.args.token } in
+    let old = c.args.self in
+    record {
+      few = old.few;
+      numbered = old.numbered;
+      named = named_after old.names c.insert.new.self old.users.devices c.push.new.self d c.in_ok-copy.field-0 c.in_ok-copy.ensures c.in_ok-push.ensures.ok c.in_ok-insert.ensures.updates old.named;
+      tokened = tokened_after old.tokens c.insert-else-not-branch.new.self old.users.devices c.push.new.self d c.in_ok-copy-2.field-0 c.in_ok-copy-2.ensures c.in_ok-push.ensures.ok c.in_ok-insert-2.ensures.updates old.tokened;
+    }

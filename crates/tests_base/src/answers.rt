@@ -1,0 +1,151 @@
+//! The bytes of answers, and the names and values of queries.
+use crate::make::{json, text};
+use mx_http::{Answer, Body, query, write_answer};
+use mx_ids::Text;
+use mx_outside::MemSink;
+use std::alloc::{AllocError, Global};
+use std::process::Abort;
+
+const HEADERS: &str =
+    "Access-Control-Allow-Origin: *\r\nAccess-Control-Allow-Methods: GET, POST, PUT, DELETE, OPTIONS\r\nAccess-Control-Allow-Headers: X-Requested-With, Content-Type, Authorization\r\n";
+
+/// The text of an answer: its status line, its length, the other headers, and what ends it.
+fn answer_text(alloc: Global, parts: [&str; 3]) -> Result<String, AllocError> {
+    let [status, length, end] = parts;
+    format!(in alloc;
+        "HTTP/1.1 {status}\r\nContent-Type: application/json\r\nContent-Length: {length}\r\n{HEADERS}{end}"
+    )
+}
+
+/// Asserts that an answer is written as these parts.
+fn expect(
+    rt: &impl Abort,
+    alloc: Global,
+    answer: &Answer,
+    head_only: bool,
+    close: bool,
+    parts: [&str; 3],
+) {
+    let mut sink = MemSink::new(alloc, Vec::new(alloc));
+    write_answer(&mut sink, answer, head_only, close).expect(rt, "no fault");
+    let wanted = answer_text(alloc, parts).expect(rt, "memory");
+    assert_eq!(rt; sink.written(), wanted.as_bytes());
+}
+
+/// Asserts how an answer that is an empty object ends.
+fn expect_empty(rt: &impl Abort, alloc: Global, head_only: bool, close: bool, end: &str) {
+    let answer = Answer {
+        status: 200,
+        body: Body::Json(json(rt, alloc, "{}")),
+    };
+    expect(rt, alloc, &answer, head_only, close, ["200 OK", "2", end]);
+}
+
+/// Asserts that an answer with this status and value is written as these parts.
+fn expect_json(rt: &impl Abort, alloc: Global, status: u16, body: &str, parts: [&str; 3]) {
+    let answer = Answer {
+        status,
+        body: Body::Json(json(rt, alloc, body)),
+    };
+    expect(rt, alloc, &answer, false, false, parts);
+}
+
+#[test]
+fn answers_have_their_bytes(rt: HostRuntime) {
+    let alloc = rt.alloc();
+    expect_empty(&rt, alloc, false, false, "\r\n{}");
+    expect_empty(&rt, alloc, true, false, "\r\n");
+    expect_empty(&rt, alloc, false, true, "Connection: close\r\n\r\n{}");
+    expect_json(
+        &rt,
+        alloc,
+        404,
+        r#"{"errcode":"M_UNRECOGNIZED","error":"not found"}"#,
+        [
+            "404 Not Found",
+            "48",
+            "\r\n{\"errcode\":\"M_UNRECOGNIZED\",\"error\":\"not found\"}",
+        ],
+    );
+}
+
+#[test]
+fn bytes_may_be_fixed(rt: HostRuntime) {
+    let answer = Answer {
+        status: 299,
+        body: Body::Fixed(b"[]"),
+    };
+    let parts = ["299 ", "2", "\r\n[]"];
+    expect(&rt, rt.alloc(), &answer, false, false, parts);
+}
+
+#[test]
+fn a_body_is_the_compact_text_of_its_value(rt: HostRuntime) {
+    expect_json(
+        &rt,
+        rt.alloc(),
+        200,
+        r#"{"a":[null,true,false,-7,0,9007199254740991,[],{}],"b\n\"\\":{"":"\b\f\r\t\u0000\u001f/\u00e9"}}"#,
+        [
+            "200 OK",
+            "92",
+            "\r\n{\"a\":[null,true,false,-7,0,9007199254740991,[],{}],\"b\\n\\\"\\\\\":{\"\":\"\\b\\f\\r\\t\\u0000\\u001f/é\"}}",
+        ],
+    );
+}
+
+/// A text of 5,000 bytes between quotes, more than the stage holds.
+fn long_text(rt: &impl Abort, alloc: Global) -> Text {
+    let mut long = text(rt, alloc, "\"");
+    for _ in 0..5000u32 {
+        long.push_str("x").expect(rt, "memory");
+    }
+    long.push_str("\"").expect(rt, "memory");
+    long
+}
+
+/// How many bytes of a long answer are written to a sink whose calls of these numbers fail: all, or a front in the error.
+fn put_count(rt: &impl Abort, alloc: Global, failing: &[u64]) -> Result<usize, usize> {
+    let failing = Vec::from_slice(alloc, failing).expect(rt, "memory");
+    let mut sink = MemSink::new(alloc, failing);
+    let answer = Answer {
+        status: 200,
+        body: Body::Json(json(rt, alloc, long_text(rt, alloc).as_str())),
+    };
+    match write_answer(&mut sink, &answer, false, false) {
+        Ok(()) => Ok(sink.written().len()),
+        Err(_) => Err(sink.written().len()),
+    }
+}
+
+#[test]
+fn a_large_body_takes_several_puts(rt: HostRuntime) {
+    let alloc = rt.alloc();
+    // a head of 245 bytes
+    assert_eq!(rt; put_count(&rt, alloc, &[]), Ok(5247));
+    let cut = put_count(&rt, alloc, &[1]).err().expect(&rt, "a fault");
+    assert!(rt; cut < 5247);
+}
+
+/// The names and values of a target's query, a line for each.
+fn pairs(rt: &impl Abort, alloc: Global, target: &str) -> Text {
+    let target = text(rt, alloc, target);
+    let mut out = Text::new(alloc);
+    for (name, value) in query(alloc, &target).expect(rt, "memory").as_slice() {
+        for part in [name.as_str(), "=", value.as_str(), "\n"] {
+            out.push_str(part).expect(rt, "memory");
+        }
+    }
+    out
+}
+
+#[test]
+fn a_query_is_decoded_in_order(rt: HostRuntime) {
+    let found = pairs(
+        &rt,
+        rt.alloc(),
+        "/sync?since=s1_0&a+b=%7B%C3%A9&&x&y=%ff&x=?",
+    );
+    assert_eq!(rt; found.as_str(), "since=s1_0\na b={é\nx=\ny=\u{fffd}\nx=?\n");
+    assert!(rt; pairs(&rt, rt.alloc(), "/sync").as_str().is_empty());
+}

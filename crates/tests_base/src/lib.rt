@@ -1,0 +1,22 @@
+//! Tests of the lower crates, through their public items: the outside, ids and tokens, JSON, HTTP, the machine of a stream
+//! and its lanes.
+#![tactic(auto)]
+
+#[cfg(test)]
+mod answers;
+#[cfg(test)]
+mod book_of_lanes;
+#[cfg(test)]
+mod ids_and_tokens;
+#[cfg(test)]
+mod json_values;
+#[cfg(test)]
+mod laws;
+#[cfg(test)]
+mod machine;
+#[cfg(test)]
+mod make;
+#[cfg(test)]
+mod requests;
+#[cfg(test)]
+mod sources_and_sinks;

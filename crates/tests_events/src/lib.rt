@@ -1,0 +1,16 @@
+//! Tests of the crates of events and rooms, through their public items: events, the rules by which they are allowed, a
+//! writer's rooms, their creation, and account data.
+#![tactic(auto)]
+
+#[cfg(test)]
+mod account_data;
+#[cfg(test)]
+mod creation;
+#[cfg(test)]
+mod events;
+#[cfg(test)]
+mod make;
+#[cfg(test)]
+mod rooms;
+#[cfg(test)]
+mod rules;
