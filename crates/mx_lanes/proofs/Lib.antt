@@ -1,3 +1,5 @@
 pub mod Books
 pub mod Orders
 pub mod Stands
+mod Joined
+pub mod UpTo
