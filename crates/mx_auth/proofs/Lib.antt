@@ -3,3 +3,4 @@ mod Maps
 mod Named
 mod Next
 mod Sorted
+pub mod Crosses

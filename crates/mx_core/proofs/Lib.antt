@@ -1,6 +1,8 @@
 pub mod Blocks
+pub mod Covering
 pub mod Histories
 mod Machines
+pub mod Orders
 pub mod Owns
 pub mod Reached
 mod Sound

@@ -13,7 +13,7 @@ use Rattle.mx_core.specs.State.{State, start, block_of, drawn, stored, held_coun
 use Rattle.mx_core.proofs.Histories.{no_item, item_kept, front_below, begins_self, begins_trans}
 use Rattle.mx_core.proofs.Sound.{IsSound, sound_start, sound_drawn, sound_stored, filled_length}
 
-sound_taken : {I : Type 0} (s t : State I) (step : Step I) → Takes s step t → IsSound s → IsSound t
+pub sound_taken : {I : Type 0} (s t : State I) (step : Step I) → Takes s step t → IsSound s → IsSound t
 sound_taken s t (Draw writer count) take r = subst IsSound (sym take.3) (sound_drawn s r writer count take.0.0 take.0.1 take.1 take.2)
 sound_taken s t (Store writer items) take r = let b = take.1.0 in subst IsSound (sym take.1.3) (sound_stored s r writer b items take.0 take.1.1 take.1.2)
 
@@ -21,14 +21,14 @@ sound_run : {I : Type 0} (s t : State I) (steps : List (Step I)) → Runs s step
 sound_run s t [] run r = subst IsSound run r
 sound_run s t (step ∷ steps) run r = sound_run run.0 t steps run.2 (sound_taken s run.0 step run.1 r)
 
-is_sound : {I : Type 0} (s : State I) → IsReached s → IsSound s
+pub is_sound : {I : Type 0} (s : State I) → IsReached s → IsSound s
 is_sound s reached = sound_run (start reached.writers reached.limit) s reached.steps reached.run (sound_start reached.writers reached.limit)
 
 run_more : {I : Type 0} (s t u : State I) (steps : List (Step I)) (step : Step I) → Runs s steps t → Takes t step u → Runs s (steps ++ step ∷ []) u
 run_more s t u [] step run take = (u, subst (λ x. Takes x step u) (sym run) take, refl)
 run_more s t u (first ∷ steps) step run take = (run.0, run.1, run_more run.0 t u steps step run.2 take)
 
-ran : {I : Type 0} (s : State I) (writers limit : ℕ) (steps : List (Step I)) → Runs (start writers limit) steps s → IsReached s
+pub ran : {I : Type 0} (s : State I) (writers limit : ℕ) (steps : List (Step I)) → Runs (start writers limit) steps s → IsReached s
 ran s writers limit steps run = record { writers = writers; limit = limit; steps = steps; run = run }
 
 -- the start is reached, and what a step makes of a reached state

@@ -20,7 +20,7 @@ pub record IsSound {I : Type 0} (s : State I) : Type 0 where
   pub bound : s.next ≤ s.limit
   pub filled : AllByRecursion (λ x. 0 < length x.items) s.history
 
-block_cases : (held : List (Option Block)) (k j : ℕ) (v : Option Block) (b : Block) → k < length held → get_or (set held k v) j None ≡ Some b
+pub block_cases : (held : List (Option Block)) (k j : ℕ) (v : Option Block) (b : Block) → k < length held → get_or (set held k v) j None ≡ Some b
     → ((j ≡ k) × (v ≡ Some b)) ⊎ ((j ≢ k) × (get_or held j None ≡ Some b))
 block_cases held k j v b lt e = elim (cases_eq j k) [
   | inl same ↦ inl (same, sym (block_at-here held k v lt) ∙ subst (λ i. get_or (set held k v) i None ≡ Some b) same e)

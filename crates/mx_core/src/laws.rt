@@ -1,5 +1,7 @@
 //! The front law, over every run of a machine: each law is the contract of a function with an empty body.
 
+ghost use Rattle.mx_core.specs.Covered.{CoversMore, CoversToFront};
+ghost use Rattle.mx_core.specs.Orderly.{RunsAreOrderly};
 ghost use Rattle.mx_core.specs.Runs.{CoversNoUnfinishedWrite, NeverFalls};
 
 /// In every run of a machine each position up to the front is stored, and no block that is held meets it.
@@ -11,4 +13,19 @@ pub fn front_covers_no_unfinished_write<I>()
 /// second, and the items up to it are equal.
 pub fn front_never_falls<I>()
     ensures { NeverFalls I }
+{}
+
+/// The number of items that stand from position 1 on without a gap is the front.
+pub fn covers_to_front<I>()
+    ensures { CoversToFront I }
+{}
+
+/// What the first stores of a history cover begins what all of them do.
+pub fn covers_more<I>()
+    ensures { CoversMore I }
+{}
+
+/// What is stored in a run of a machine is orderly: each position once, and a writer's positions rise.
+pub fn runs_are_orderly<I>()
+    ensures { RunsAreOrderly I }
 {}

@@ -1,5 +1,5 @@
 -- Each step of one seat leads from a good world to a good one, and what the other seats know stays true.
-use Rattle.std.proofs.Common.{◌≡◌, ◌≢◌, ℕ, suc, ◌+◌, ◌≤◌, ◌⊎◌, Bool, true, eqb, List, [], ◌∷◌, Some, None, length, get_or, set, append-nil, refl, sym, ap, ◌∙◌, subst, inl, inr, arith}
+use Rattle.std.proofs.Common.{◌<◌, ◌≡◌, ◌≢◌, ℕ, suc, ◌+◌, ◌≤◌, ◌⊎◌, Bool, true, eqb, List, [], ◌∷◌, Some, None, length, get_or, set, append-nil, refl, sym, ap, ◌∙◌, subst, inl, inr, arith}
 use Rattle.std.proofs.lemmas.Bool.{cases_eq}
 use mathlib.Core.Option as maybe
 use lib.Seq.{set-get_or}
@@ -9,6 +9,8 @@ use Rattle.atomic_table.proofs.Lists.{exchanged}
 use Rattle.mx_core.specs.declared.history.Stored.{Stored}
 use Rattle.mx_core.specs.History.{own, is_stored, stored_count, Begins, Law, keeps_law}
 use Rattle.mx_core.specs.State.{State, block_of, count_of}
+use Rattle.mx_core.specs.Orderly.{top}
+use Rattle.mx_core.proofs.Orders.{runs_are_orderly, reached_above}
 use Rattle.mx_core.proofs.Owns.{begins_own, keeps_law_front}
 use Rattle.mx_core.proofs.Reached.{stored_apart, held_in, reached_counts}
 use Rattle.mx_lanes.specs.Held.{Held}
@@ -246,6 +248,7 @@ module _ {I : Type 0} (law : Law I) (key : Key) where
             count = ap length (sym q.whole);
             begins = subst (Begins v.seen) (sym q.whole) k.core.sees;
             lawful = ap (keeps_law law []) q.whole ∙ kept.lawful;
+            orderly = runs_are_orderly s kept.reached v.all ([], sym q.whole ∙ sym (append-nil v.all));
             reads = subst (λ h. v.read ≤ stored_count h + 4096) (sym q.whole) (omega (arith, k.core.reads, reached_counts s kept.reached, held_few s.held kept.blocks, kept.writers, kept.few));
             pen = λ pk who. let p = pen_is key w.core id v pk k.core who in record {
               own_is = ap (λ h. own h pk) q.whole ∙ sym p.own_is;
@@ -258,6 +261,7 @@ module _ {I : Type 0} (law : Law I) (key : Key) where
                     omega (arith, there.2, few_drawn s w.core.over kept, kept.small),
                     omega (arith, least, p.within),
                   );
+              above = λ b e. subst (λ l. top 0 l < b.first) (sym p.own_is) (reached_above s kept.reached pk b (p.block ∙ e));
               apart = λ b at e low high. ap (λ h. is_stored h at) q.whole ∙ stored_apart s kept.reached pk b at (p.block ∙ e) low high;
             };
           },
@@ -302,6 +306,7 @@ module _ {I : Type 0} (law : Law I) (key : Key) where
         record {
           begins = begins_one v.seen v.heard h k.core.sees k.core.hears;
           lawful = keeps_law_front law (longer v.seen v.heard) h (begins_longer v.seen v.heard h k.core.sees k.core.hears) good.kept.lawful;
+          orderly = runs_are_orderly w.core.state good.kept.reached (longer v.seen v.heard) (begins_longer v.seen v.heard h k.core.sees k.core.hears);
           seen = λ pk who. of_pen v.seen pk k.core.sees who;
           heard = λ pk who. of_pen v.heard pk k.core.hears who;
         },

@@ -4,6 +4,7 @@ use Rattle.atomic_table.specs.Table.{Me, Step}
 use Rattle.mx_core.specs.declared.history.Stored.{Stored}
 use Rattle.mx_core.specs.declared.machine.Block.{Block}
 use Rattle.mx_core.specs.History.{own, is_stored, stored_count, Begins, Law, keeps_law}
+use Rattle.mx_core.specs.Orderly.{IsOrderly, top}
 use Rattle.mx_lanes.specs.Held.{Held, StandsFor}
 use Rattle.mx_front.specs.declared.view.Role.{Role}
 use Rattle.mx_front.specs.declared.view.Role.TheVariants.{Reader, Maker, Pen}
@@ -43,12 +44,14 @@ came st m found m' = (m.0.turn ≡ Waits found → Came m found m') × (m.0.turn
 pub record OwnIn {I : Type 0} (v : View I) (all : List (Stored I)) (k : ℕ) : Type 0 where
   pub own_is : own all k ≡ v.own
   pub block : (b : Block) → v.block ≡ Some b → (0 < b.first) × (0 < b.count) × (b.first + b.count ≤ 2 ^ 48) × (b.count ≤ v.reserve)
+  pub above : (b : Block) → v.block ≡ Some b → top 0 v.own < b.first
   pub apart : (b : Block) (p : ℕ) → v.block ≡ Some b → b.first ≤ p → p < b.first + b.count → is_stored all p ≡ false
 
 pub record Looked {I : Type 0} (law : Law I) (v : View I) (found : ℕ) : Type 0 where
   pub count : found ≡ length v.all
   pub begins : Begins v.seen v.all
   pub lawful : keeps_law law [] v.all ≡ true
+  pub orderly : IsOrderly v.all
   pub reads : v.read ≤ stored_count v.all + 4096
   pub pen : (k : ℕ) → v.who ≡ Pen k → OwnIn v v.all k
 
@@ -103,6 +106,7 @@ shorter xs ys = if nat_le (length ys) (length xs) then ys else xs
 pub record Learned {I : Type 0} (law : Law I) (v : View I) : Type 0 where
   pub begins : Begins (shorter v.seen v.heard) (longer v.seen v.heard)
   pub lawful : keeps_law law [] (longer v.seen v.heard) ≡ true
+  pub orderly : IsOrderly (longer v.seen v.heard)
   pub seen : (k : ℕ) → v.who ≡ Pen k → Begins (own v.seen k) v.own
   pub heard : (k : ℕ) → v.who ≡ Pen k → Begins (own v.heard k) v.own
 

@@ -2,6 +2,7 @@
 use Rattle.std.specs.Prelude.{◌≡◌, ℕ, ◌+◌, ◌^◌, ◌<◌, ◌≤◌, true, false, List, [], ◌∷◌, ◌++◌, Some, length, slice_index}
 use Rattle.mx_core.specs.declared.history.Stored.{Stored}
 use Rattle.mx_core.specs.Front.{IsFront}
+use Rattle.mx_core.specs.Orderly.{IsOrderly}
 use Rattle.mx_core.specs.History.{is_stored, stored_count, Begins, Law, keeps_law}
 use Rattle.mx_lanes.specs.Held.{Held, StandsFor, Keeps}
 use Rattle.mx_front.specs.declared.view.Role.TheVariants.{Pen}
@@ -42,6 +43,7 @@ pub record Seized {I : Type 0} (law : Law I) (v : View I) (ticket : ℕ) (m : Sa
   pub below : ticket + 1 < 2 ^ 64
   pub begins : Begins v.seen all
   pub lawful : keeps_law law [] all ≡ true
+  pub orderly : IsOrderly all
   pub reads : v.read ≤ stored_count all + 4096
   pub pen : (k : ℕ) → v.who ≡ Pen k → OwnIn v all k
 

@@ -37,7 +37,10 @@ pub fn stream<I: Placed + Drop>(
         let pen = stream.make_pen(&mut maker, writer);
         pens.push(pen)?;
     }
-    Ok((stream, pens, Pass { seat: maker }))
+    Ok((stream, pens, Pass {
+            seat: maker,
+            stores: 0,
+        }))
 }
 
 /// The stream, and the seat that makes its pens.
@@ -78,6 +81,10 @@ impl<I: Placed + Drop> Stream<I> {
         ensures pen { IsNewPen (place_of self.now) writer result }
     {
         let seat = self.table.shared.split_seat::<plays::PenMade>(maker);
-        Pen { seat, writer }
+        Pen {
+            seat,
+            writer,
+            stores: 0,
+        }
     }
 }

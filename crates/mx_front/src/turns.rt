@@ -72,15 +72,16 @@ impl<I: Placed + Drop> Stream<I> {
         ticket
     }
 
-    /// Waits for a turn, takes the book, and looks at its stores. Returns the ticket.
-    pub(crate) fn seize<R: Wait>(&self, rt: &R, seat: &mut Place<I>) -> u64
+    /// Waits for a turn, takes the book, and looks at its stores: `count` is then their number. Returns the ticket.
+    pub(crate) fn seize<R: Wait>(&self, rt: &R, seat: &mut Place<I>, count: &mut u64) -> u64
         requires table { seat.old.table_id ≡ self.now.table.shared.table_id }
         requires bare { seat.old.me.1 ≡ [] }
         ensures table { seat.new.table_id ≡ seat.old.table_id }
         ensures seized { Seized I.lawful seat.old.me.0 result seat.new.me }
+        ensures count { count.new ≡ length seat.new.me.0.seen }
     {
         let ticket = self.enter(rt, seat);
-        self.table.shared.load::<plays::Looked<I>>(seat, COUNT);
+        *count = self.table.shared.load::<plays::Looked<I>>(seat, COUNT);
         ticket
     }
 
@@ -105,18 +106,20 @@ impl<I: Placed + Drop> Stream<I> {
         self.table.shared.exchange(seat, 0, Some(book));
     }
 
-    /// Stores items in the turn. Returns the front. Takes no memory.
+    /// Stores items in the turn: `count` is then the number of stores. Returns the front. Takes no memory.
     pub(crate) fn put_store(
         &self,
         seat: &mut Place<I>,
         writer: u8,
         first: u64,
         items: Seq<I>,
+        count: &mut u64,
     ) -> u64
         requires table { seat.old.table_id ≡ self.now.table.shared.table_id }
         requires ready { (b : Held I) × Ready I.lawful seat.old.me (record { writer = writer; first = first; items = items }) b }
         ensures table { seat.new.table_id ≡ seat.old.table_id }
         ensures stored { Stores seat.old.me.0 (record { writer = writer; first = first; items = items }) result seat.new.me }
+        ensures count { count.new ≡ length seat.new.me.0.seen }
     {
         let mut book = self.take_book(seat);
         book.store(writer, first, items);
@@ -124,6 +127,7 @@ impl<I: Placed + Drop> Stream<I> {
         let stores = book.stores();
         self.put_book(seat, book);
         self.table.shared.store::<plays::Put>(seat, COUNT, stores);
+        *count = stores;
         front
     }
 

@@ -64,8 +64,14 @@ impl<I: Placed + Drop> Stream<I> {
         ensures stream { (place_of_pen pen.new ≡ place_of_pen pen.old) × (number pen.new ≡ number pen.old) }
         ensures stored { Finishes I.lawful (known pen.old) (record { writer = number pen.old; first = drawn.first; items = items }) result (known pen.new) }
     {
-        let ticket = self.seize(rt, &mut pen.seat);
-        let front = self.put_store(&mut pen.seat, pen.writer, drawn.first, items);
+        let ticket = self.seize(rt, &mut pen.seat, &mut pen.stores);
+        let front = self.put_store(
+            &mut pen.seat,
+            pen.writer,
+            drawn.first,
+            items,
+            &mut pen.stores,
+        );
         self.leave(&mut pen.seat, ticket);
         front
     }

@@ -3,7 +3,7 @@
 ghost use Rattle.std.specs.Prelude.{◌≡◌, ◌+◌, ◌^◌, ◌≤◌, Some, length};
 ghost use Rattle.mx_core.specs.History.{placed_from, Begins};
 ghost use Rattle.mx_front.specs.Shown.{place_of, stop_of, known, place_of_pen, reads, place_of_pass};
-ghost use Rattle.mx_writers.specs.Decision.{Stores, CanBeStored};
+ghost use Rattle.mx_writers.specs.Decision.{Stores, CanBeStored, IsLane};
 ghost use Rattle.mx_writers.specs.Writes.{WritesBy, WritesSeen};
 
 use crate::answers::{Refused, Written};
@@ -60,6 +60,7 @@ fn store_block<F: Folds, G: Gate, R: Wait>(
 ) -> Result<Written, Refused<F::Fault>>
     requires stream { place_of_pen shard.old.pen ≡ place_of stream.now }
     requires pending { F.pending shard.old.folds ≡ Some prepared.now.items }
+    requires lane { IsLane F.Item.lawful shard.old.writer (known shard.old.pen).own }
     requires lawful { CanBeStored F.Item.lawful F.Item.placed shard.old.writer (known shard.old.pen).own prepared.now.items }
     ensures stream { (place_of_pen shard.new.pen ≡ place_of_pen shard.old.pen) × (shard.new.writer ≡ shard.old.writer) }
     ensures seen { Begins (known shard.old.pen).seen (known shard.new.pen).seen }

@@ -1,10 +1,10 @@
-use Rattle.mx_front.proofs.Seats.{has_looked, shows}
+use Rattle.mx_front.proofs.Seats.{has_looked, shows, counted_look}
 use Rattle.mx_front.proofs.front.Stream.look.Goals as goal
 
 pub invariant_of-pass : goal.invariant_of-pass
 invariant_of-pass g c =
     let h = has_looked _ _ _ _ _ _ c.seize-ticket.ensures.seized c.read_parts-parts.ensures.grown c.leave.ensures.left in
-    record { rests = h.rests; lawful = h.looks.lawful }
+    record { rests = h.rests; lawful = h.looks.lawful; orderly = h.looks.orderly; counted = counted_look _ _ _ _ c.read_parts-parts.ensures.grown c.leave.ensures.left c.seize-ticket.ensures.count }
 
 pub returns-clause-seen : goal.returns-clause-seen
 returns-clause-seen g c = (has_looked _ _ _ _ _ _ c.seize-ticket.ensures.seized c.read_parts-parts.ensures.grown c.leave.ensures.left).looks

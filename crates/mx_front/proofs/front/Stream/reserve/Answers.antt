@@ -1,5 +1,6 @@
-use Rattle.std.proofs.Common.{ap, sym, ◌∙◌, rules}
+use Rattle.std.proofs.Common.{ap, sym, subst, ◌∙◌, length, rules}
 use Rattle.mx_core.specs.History.{own}
+use Rattle.mx_core.specs.Orderly.{IsOrderly}
 use Rattle.mx_front.proofs.Seats.{lane_in, reserved, roomy}
 use Rattle.mx_front.proofs.front.Stream.reserve.Goals as goal
 
@@ -13,6 +14,8 @@ invariant_of-pen g c =
       writes = r.writes;
       complete = ap (λ l. own l c.args.pen.now.writer) r.roomier.seen ∙ c.args.pen.now.complete ∙ sym r.roomier.own_is;
       lawful = search (rules, r.roomier.seen);
+      orderly = subst IsOrderly (sym r.roomier.seen) c.args.pen.now.orderly;
+      counted = c.args.pen.now.counted ∙ sym (ap length r.roomier.seen);
     }
 
 pub returns-clause-room : goal.returns-clause-room
