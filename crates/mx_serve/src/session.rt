@@ -4,7 +4,7 @@ ghost use Rattle.mx_ids.specs.Users.{IsUsers};
 ghost use Rattle.mx_outside.specs.Causes.{Rose};
 ghost use Rattle.mx_serve.specs.Runs.{Ran, RanOver, Tells, change, line_of, number_of, status_of};
 ghost use Rattle.mx_serve.specs.Words.{AreWords};
-ghost use Rattle.mx_serve.specs.declared.run.Status.{Status};
+ghost use Rattle.mx_serve.specs.declared.session.Status.{Status};
 
 use crate::connection::{End, serve_connection};
 use crate::users_file::{UsersFault, read_users};
@@ -131,8 +131,9 @@ fn status_of(end: End) -> Status
     }
 }
 
-/// Tells why the status isn't 0.
-fn tell<E: Sink>(errors: &mut E, status: Status)
+/// Puts one line to `errors` that says why the status isn't 0; nothing where it is 0. A fault of `errors` is passed over. Takes no
+/// memory.
+pub fn tell<E: Sink>(errors: &mut E, status: Status)
     ensures { Tells (E.written errors.old) (E.written errors.new) (E.faults errors.old) (E.faults errors.new) (line_of status) }
 {
     let line = line_of(status);

@@ -1,7 +1,7 @@
 use Rattle.std.proofs.Common.{inr}
 use Rattle.mx_serve.proofs.Agreement.{chain_agrees}
 use Rattle.mx_serve.proofs.Outcomes.{users_read}
-use Rattle.mx_serve.proofs.run.run_over.Goals as goal
+use Rattle.mx_serve.proofs.session.run_over.Goals as goal
 
 pub returns-in-Ok-read_users : goal.returns-in-Ok-read_users
 returns-in-Ok-read_users g c =
