@@ -7,6 +7,7 @@ use Rattle.mx_window.specs.Lasts.{last_of}
 use Rattle.mx_window.proofs.Each.{AllByRecursion-filter}
 use Rattle.mx_window.proofs.Intervals.{between-within}
 use Rattle.mx_window.proofs.Lasts.{last_of-some, last_of-split}
+use Rattle.mx_folding.specs.Sections.{window}
 use Rattle.mx_folding.specs.Parts.{picks, picks_new, Part, part_of}
 use Rattle.mx_folding.specs.Clients.{ClientRoom, empty_room, with_part}
 use Rattle.mx_folding.specs.Agreement.{RoomAgrees}
@@ -62,10 +63,10 @@ join_stands k g b i front had (Some e) j h = by (g.membership e) j h where
 
 module _ {E K V D T : Type 0} (k : Tokens T) (tokens : IsTokens k) (g : Story E K V D T) (story : IsStory k g) (ask : Sync) (heroes : K → Bool) (b : ℕ) where
   abbrev anew : T → Part E
-  anew j = part_of g.room g.events ask.after ask.limit (k.event j) 0 (k.event j) (picks_new g.room heroes)
+  anew j = part_of g.room g.events (k.event j) (window ask.after ask.limit 0 (k.event j)) (picks_new g.room heroes)
 
   abbrev more : T → T → Part E
-  more i j = part_of g.room g.events ask.after ask.limit (k.event j) (k.event i) (k.event j) (picks g.room ask.redundant b (k.event i) (cond ask.full 0 (k.event i)) heroes)
+  more i j = part_of g.room g.events (k.event j) (window ask.after ask.limit (k.event i) (k.event j)) (picks g.room ask.redundant b (k.event i) (cond ask.full 0 (k.event i)) heroes)
 
   -- a new room
   told_anew : (j : T) (front : ℕ) (s : ℕ) (had : Holding E K V) → k.event j ≤ front → (g.room.stayed b (k.event j) ≡ true → k.event j ≤ b) → Holds k g b j front In (with_told g ask.after s (k.event j) (Anew (anew j) (g.rest.view j)) had)
@@ -172,6 +173,6 @@ module _ {E K V D T : Type 0} (k : Tokens T) (tokens : IsTokens k) (g : Story E 
 pub folds_room : {E K V D T : Type 0} → FoldsRoom E K V D T
 folds_room k tokens g story ask heroes b None j front front' had next base later upto agrees =
     first_by k tokens g story ask heroes b j front' had
-    (part_of g.room g.events ask.after ask.limit (k.event j) 0 (k.event j) (picks g.room ask.redundant b 0 (cond ask.full 0 0) heroes)) g.picked (own_at g (k.event j)) base upto agrees
+    (part_of g.room g.events (k.event j) (window ask.after ask.limit 0 (k.event j)) (picks g.room ask.redundant b 0 (cond ask.full 0 0) heroes)) g.picked (own_at g (k.event j)) base upto agrees
 folds_room k tokens g story ask heroes b (Some i) j front front' had next base later upto agrees =
     later_by k tokens g story ask heroes b i j front front' had g.picked (own_at g (k.event j)) next base later upto refl refl agrees

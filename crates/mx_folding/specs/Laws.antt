@@ -1,7 +1,7 @@
 -- The folding law of one room: what a client holds after it has put a reply's part or a page into its room.
 use Rattle.std.specs.Prelude.{◌↔◌, ◌≡◌, ℕ, ◌≤◌, Bool, true, false, not, ◌&&◌, ◌||◌, List, [], ◌∷◌, ◌++◌, map, Option, nat_lt, nat_le}
 use Rattle.std.specs.List.{filter, list_any, AllByRecursion}
-use Rattle.mx_folding.specs.Sections.{sendable, section, cut, is_limited}
+use Rattle.mx_folding.specs.Sections.{sendable, section, cut, is_limited, window}
 use Rattle.std.specs.Option.{option_map}
 use Rattle.mx_folding.specs.Rooms.{Room, IsRoom, StaysSent, state_at}
 use Rattle.mx_folding.specs.Parts.{Part, part_of, page_of, picks, picks_new}
@@ -14,14 +14,14 @@ use Rattle.mx_folding.specs.Agreement.{pictured, TimelineAgrees, StateAgrees, is
 abbrev pub FoldsReply : Type 0 → Type 0 → Type 0
 FoldsReply E K = (r : Room E K) (es : List E) → IsRoom r es → (after : Bool) (limit from s t front front' b : ℕ) (redundant : Bool) (heroes : K → Bool) (room : ClientRoom E K)
     → StaysSent r es s → from ≤ s → s ≤ t → front ≤ front' → t ≤ front' → RoomAgrees r es b s front room
-    → RoomAgrees r es b t front' (with_part r after s t (part_of r es after limit t s t (picks r redundant b s from heroes)) room)
+    → RoomAgrees r es b t front' (with_part r after s t (part_of r es t (window after limit s t) (picks r redundant b s from heroes)) room)
 
 -- An empty room agrees with the picture at t, after the part that a reply sends of a new room: where the user was
 -- joined from b to t, t is b.
 abbrev pub FoldsNew : Type 0 → Type 0 → Type 0
 FoldsNew E K = (r : Room E K) (es : List E) → IsRoom r es → (after : Bool) (limit t front b : ℕ) (heroes : K → Bool)
     → t ≤ front → (r.stayed b t ≡ true → t ≤ b)
-    → RoomAgrees r es b t front (with_part r after 0 t (part_of r es after limit t 0 t (picks_new r heroes)) (empty_room E K))
+    → RoomAgrees r es b t front (with_part r after 0 t (part_of r es t (window after limit 0 t) (picks_new r heroes)) (empty_room E K))
 
 -- A room that agrees with the picture at t still does after a backward page, judged at a front e of at least t, of a
 -- gap in its timeline. The front of its copies is then at least e.
@@ -65,10 +65,10 @@ HoldsAll E K = (r : Room E K) (es : List E) (t : ℕ) (cs : List E) → Timeline
 -- A section is what may be sent of the window above its cut; the reply is limited exactly where something may be sent of
 -- the window up to the cut.
 abbrev pub SectionIsWindow : Type 0 → Type 0 → Type 0
-SectionIsWindow E K = (r : Room E K) (es : List E) → IsRoom r es → (after : Bool) (limit front low high q : ℕ) → low ≤ high → q ≡ cut r es after limit front low high
-    → (section r es after limit front low high ≡ sendable r es front q high) × (low ≤ q) × (q ≤ high)
-    × ((is_limited r es after limit front low high ≡ false) ↔ (sendable r es front low q ≡ []))
+SectionIsWindow E K = (r : Room E K) (es : List E) → IsRoom r es → (after : Bool) (limit front low high q : ℕ) → low ≤ high → q ≡ cut r es front (window after limit low high)
+    → (section r es front (window after limit low high) ≡ sendable r es front q high) × (low ≤ q) × (q ≤ high)
+    × ((is_limited r es front (window after limit low high) ≡ false) ↔ (sendable r es front low q ≡ []))
 
 -- Each event of a section is visible to the user at the front, and the timeline filter passes it.
 abbrev pub SentIsVisible : Type 0 → Type 0 → Type 0
-SentIsVisible E K = (r : Room E K) (es : List E) (after : Bool) (limit front low high : ℕ) → AllByRecursion (λ e. r.sends front e ≡ true) (section r es after limit front low high)
+SentIsVisible E K = (r : Room E K) (es : List E) (after : Bool) (limit front low high : ℕ) → AllByRecursion (λ e. r.sends front e ≡ true) (section r es front (window after limit low high))

@@ -2,6 +2,7 @@
 use Rattle.std.specs.Prelude.{◌≡◌, ℕ, ◌<◌, ◌≤◌, Bool, List, ◌++◌}
 use Rattle.std.specs.List.{AllByRecursion}
 use Rattle.mx_window.specs.Windows.{between}
+use Rattle.mx_folding.specs.Sections.{window}
 use Rattle.mx_folding.specs.Rooms.{Room}
 use Rattle.mx_folding.specs.Parts.{part_of, page_of}
 use Rattle.mx_folding.specs.Visible.{Viewer, is_visible}
@@ -15,7 +16,7 @@ judged_by r sends stayed = record r { sends = sends; stayed = stayed }
 abbrev pub SamePart : Type 0 → Type 0 → Type 0
 SamePart E K = (r : Room E K) (sends : ℕ → E → Bool) (stayed : ℕ → ℕ → Bool) (es later : List E) (after : Bool) (limit front s t : ℕ) (pick : List E → E → Bool)
     → s ≤ t → t ≤ front → AllByRecursion (λ e. front < r.at e) later → AllByRecursion (λ e. sends front e ≡ r.sends front e) (between r.at 0 front es)
-    → part_of (judged_by r sends stayed) (es ++ later) after limit front s t pick ≡ part_of r es after limit front s t pick
+    → part_of (judged_by r sends stayed) (es ++ later) front (window after limit s t) pick ≡ part_of r es front (window after limit s t) pick
 
 -- So is a page of (low, high] at a front e.
 abbrev pub SamePage : Type 0 → Type 0 → Type 0

@@ -5,7 +5,7 @@ use Rattle.std.specs.List.{filter, list_any}
 use Rattle.mx_window.specs.Windows.{between, before_first}
 use Rattle.mx_window.specs.Lasts.{current}
 use Rattle.mx_folding.specs.Rooms.{Room, key_is, is_state, is_kept, sets_same, wrote, mine}
-use Rattle.mx_folding.specs.Sections.{sendable, section, cut, is_limited, chunk}
+use Rattle.mx_folding.specs.Sections.{Window, sendable, section, cut, is_limited, chunk}
 use Rattle.mx_folding.specs.Redactions.{shown}
 
 -- a sender of these events has the member key
@@ -43,14 +43,14 @@ pub record Part (E : Type 0) : Type 0 where
   pub state : List E
   pub sent : List E
 
--- the part for the window (s, t], judged and shown at a front: at t, but for a room that the user left, whose window ends
--- with its stay; `pick` sees the section, since lazy members depend on its senders
-abbrev pub part_of : {E K : Type 0} → Room E K → List E → Bool → ℕ → ℕ → ℕ → ℕ → (List E → E → Bool) → Part E
-part_of r es after limit front s t pick = record {
-  limited = is_limited r es after limit front s t;
-  cut = cut r es after limit front s t;
-  state = map (shown r es front) (state_part r es (pick (section r es after limit front s t)) (cond after t (cut r es after limit front s t)));
-  sent = map (shown r es front) (section r es after limit front s t);
+-- the part for a window, judged and shown at a front: at its end, but for a room that the user left, whose window ends with
+-- its stay; `pick` sees the section, since lazy members depend on its senders
+abbrev pub part_of : {E K : Type 0} → Room E K → List E → ℕ → Window → (List E → E → Bool) → Part E
+part_of r es front w pick = record {
+  limited = is_limited r es front w;
+  cut = cut r es front w;
+  state = map (shown r es front) (state_part r es (pick (section r es front w)) (cond w.after w.high (cut r es front w)));
+  sent = map (shown r es front) (section r es front w);
 }
 
 -- what a backward page says

@@ -5,6 +5,7 @@ use Rattle.std.specs.Option.{option_and_then}
 use Rattle.std.specs.List.{AllByRecursion}
 use Rattle.mx_window.specs.Windows.{between}
 use Rattle.mx_window.specs.Lasts.{last_of}
+use Rattle.mx_folding.specs.Sections.{window}
 use Rattle.mx_folding.specs.Rooms.{Room, IsRoom, StaysSent}
 use Rattle.mx_folding.specs.Parts.{Part, part_of, picks, picks_new}
 use Rattle.mx_folding.specs.Clients.{ClientRoom, empty_room, with_part}
@@ -138,8 +139,8 @@ told_of k g since j leave anew more (Some e) = told_by k g since j leave anew mo
 abbrev pub told : {E K V D T : Type 0} → Tokens T → Story E K V D T → Sync → (K → Bool) → ℕ → Option T → T → Told E V D
 told k g ask heroes b since j =
     cond g.picked (told_of k g since j ask.leave
-    (part_of g.room g.events ask.after ask.limit (k.event j) 0 (k.event j) (picks_new g.room heroes))
-    (part_of g.room g.events ask.after ask.limit (k.event j) (position k since) (k.event j) (picks g.room ask.redundant b (position k since) (cond ask.full 0 (position k since)) heroes))
+    (part_of g.room g.events (k.event j) (window ask.after ask.limit 0 (k.event j)) (picks_new g.room heroes))
+    (part_of g.room g.events (k.event j) (window ask.after ask.limit (position k since) (k.event j)) (picks g.room ask.redundant b (position k since) (cond ask.full 0 (position k since)) heroes))
     (own_at g (k.event j))) Nothing
 
 -- what a client holds of a room

@@ -2,6 +2,7 @@
 use Rattle.std.proofs.Common.{◌≡◌, ℕ, ◌≤◌, ◌==◌, Bool, true, false, not, nat_le, nat_lt, [], ◌∷◌, None, refl, arith}
 use Rattle.std.proofs.lemmas.Bool.{false≢true}
 use Rattle.mx_window.proofs.Each.{AllByRecursion-every}
+use Rattle.mx_folding.specs.Sections.{window}
 use Rattle.mx_folding.specs.Rooms.{Room, IsRoom, StaysSent}
 use Rattle.mx_folding.specs.Parts.{part_of, picks, picks_new, is_omitted}
 use Rattle.mx_folding.specs.Clients.{Held, Open, ClientRoom, empty_room, with_part, with_page}
@@ -22,7 +23,7 @@ stays r sent s t up = AllByRecursion-every _ (λ e. refl) _
 
 -- what a client holds after the first reply
 abbrev first : Room Item Bool → Bool → ℕ → ℕ → ClientRoom Item Bool
-first r after limit t = with_part r after 0 t (part_of r events after limit t 0 t (picks_new r (λ k. false))) (empty_room Item Bool)
+first r after limit t = with_part r after 0 t (part_of r events t (window after limit 0 t) (picks_new r (λ k. false))) (empty_room Item Bool)
 
 first_agrees : (r : Room Item Bool) → IsRoom r events → (after : Bool) (limit t b : ℕ) → (r.stayed b t ≡ true → t ≤ b) → RoomAgrees r events b t t (first r after limit t)
 first_agrees r is after limit t b base = folds_new r events is after limit t t b (λ k. false) (omega arith) base
@@ -58,7 +59,7 @@ needs_held law =
     let agrees = folds_reply r events is false 10 2 2 3 2 3 2 false (λ k. false) (first r false 0 2) (stays r (λ e. true) 2) (omega arith) (omega arith) (omega arith) (omega arith)
     (first_agrees r is false 0 2 2 (λ h. absurd (false≢true h))) in
     let old = (law r events is 10 2 3 3 3 3 0 2 2 [] (Held naming ∷ [])
-    (with_part r false 2 3 (part_of r events false 10 3 2 3 (picks r false 2 2 2 (λ k. false))) (first r false 0 2)).state (stays r (λ e. true) 3) (omega arith) (omega arith) (omega arith) agrees).state.right true (at 1) refl in
+    (with_part r false 2 3 (part_of r events 3 (window false 10 2 3) (picks r false 2 2 2 (λ k. false))) (first r false 0 2)).state (stays r (λ e. true) 3) (omega arith) (omega arith) (omega arith) agrees).state.right true (at 1) refl in
     absurd cc
 
 -- member 1 isn't held, since the user wasn't joined, and its user sends 2

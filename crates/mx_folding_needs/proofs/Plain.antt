@@ -2,6 +2,7 @@
 use Rattle.std.proofs.Common.{◌≡◌, ℕ, ◌==◌, Bool, true, false, nat_le, List, [], ◌∷◌, Option, Some, None, refl, ap, sym, subst, arith, leb-true, cond, not, ◌↔◌}
 use Rattle.std.proofs.lemmas.Bool.{false≢true}
 use Rattle.mx_window.proofs.Each.{AllByRecursion-every}
+use Rattle.mx_folding.specs.Sections.{window}
 use Rattle.mx_folding.specs.Rooms.{Room, state_at}
 use Rattle.mx_folding.specs.Visible.{Join}
 use Rattle.mx_folding.specs.Parts.{part_of, picks_new}
@@ -103,7 +104,7 @@ held_room k g b i front room view invited h = subst (λ r. RoomAgrees g.room g.e
 
 -- what the client holds at 3 that synced at 1, before the user joined, and then at 3
 abbrev pub at_3 : Room Item Bool → ClientRoom Item Bool
-at_3 r = with_part r false 0 3 (part_of r events false 10 3 0 3 (picks_new r (λ k. false))) (empty_room Item Bool)
+at_3 r = with_part r false 0 3 (part_of r events 3 (window false 10 0 3) (picks_new r (λ k. false))) (empty_room Item Bool)
 
 abbrev Law : Asked → Type 0
 Law a = ChainsFoldIf a (Unit {0}) Item Bool ℕ ℕ ℕ

@@ -2,7 +2,7 @@
 use Rattle.std.specs.Prelude.{◌≡◌, ℕ, ◌≤◌, Bool, true, false, not, ◌&&◌, ◌||◌, List, [], ◌∷◌, ◌++◌, map, Option, Some, nat_lt, nat_le, ⊤}
 use Rattle.std.specs.List.{AllByRecursion}
 use Rattle.mx_folding.specs.Rooms.{Room, IsRoom, StaysSent, key_is}
-use Rattle.mx_folding.specs.Sections.{section}
+use Rattle.mx_folding.specs.Sections.{section, window}
 use Rattle.mx_folding.specs.Redactions.{is_named, shown}
 use Rattle.mx_folding.specs.Parts.{is_sender, state_part, picks_new, Part, part_of, Page, page_of}
 use Rattle.mx_folding.specs.Clients.{Entry, Held, Open, ClientRoom, empty_room, held, put_all, redacted_room, with_part, with_page}
@@ -27,7 +27,7 @@ abbrev pub FoldsReplyBy : (E K : Type 0) → Agreement E K → Omission E K → 
 FoldsReplyBy E K Agree omits = (r : Room E K) (es : List E) → IsRoom r es → (after : Bool)
     (limit from s t front front' b : ℕ) (redundant : Bool) (heroes : K → Bool) (room : ClientRoom E K)
     → StaysSent r es s → from ≤ s → s ≤ t → front ≤ front' → t ≤ front' → Agree r es b s front room
-    → Agree r es b t front' (with_part r after s t (part_of r es after limit t s t (picks_by omits r redundant b s from heroes)) room)
+    → Agree r es b t front' (with_part r after s t (part_of r es t (window after limit s t) (picks_by omits r redundant b s from heroes)) room)
 
 -- `with_page`, as a client may do it
 abbrev pub Taking : Type 0 → Type 0 → Type 0
@@ -51,13 +51,13 @@ FoldsPageBy E K Agree take members = (r : Room E K) (es : List E) → IsRoom r e
 -- `FoldsNew`, at any b
 abbrev pub FoldsNewAnywhere : Type 0 → Type 0 → Type 0
 FoldsNewAnywhere E K = (r : Room E K) (es : List E) → IsRoom r es → (after : Bool) (limit t front b : ℕ) (heroes : K → Bool)
-    → t ≤ front → RoomAgrees r es b t front (with_part r after 0 t (part_of r es after limit t 0 t (picks_new r heroes)) (empty_room E K))
+    → t ≤ front → RoomAgrees r es b t front (with_part r after 0 t (part_of r es t (window after limit 0 t) (picks_new r heroes)) (empty_room E K))
 
 -- a new room's part whose section isn't cut at the break
 abbrev pub uncut : {E K : Type 0} → Room E K → List E → ℕ → ℕ → (K → Bool) → Part E
 uncut r es limit t heroes =
-    let part = part_of r es true limit t 0 t (picks_new r heroes) in
-    record part { state = map (shown r es t) (state_part r es (picks_new r heroes (section r es true limit t 0 t)) part.cut) }
+    let part = part_of r es t (window true limit 0 t) (picks_new r heroes) in
+    record part { state = map (shown r es t) (state_part r es (picks_new r heroes (section r es t (window true limit 0 t))) part.cut) }
 
 abbrev pub FoldsNewUncut : Type 0 → Type 0 → Type 0
 FoldsNewUncut E K = (r : Room E K) (es : List E) → IsRoom r es → (limit t front b : ℕ) (heroes : K → Bool)
