@@ -11,7 +11,7 @@ use Rattle.mx_event.specs.Shown.{position_of}
 use Rattle.mx_event.specs.declared.event.Event.{Event}
 use Rattle.mx_folding.specs.Rooms.{Room}
 use Rattle.mx_folding.specs.Sections.{sendable, break_at, section, chunk, window}
-use Rattle.mx_folding.specs.Parts.{Part, part_of, page_of, picks, picks_new}
+use Rattle.mx_folding.specs.Parts.{Part, part_of, page_of, picks, picks_new, Gap}
 use Rattle.mx_folding.specs.Redactions as redactions
 use Rattle.mx_folding.specs.Laws.{has_some}
 use Rattle.mx_folding.specs.Visible.{Membership, Join, Invite, Leave, Ban, is_visible, joined_at}
@@ -24,7 +24,7 @@ use Rattle.mx_view.specs.Tokens.{tokens, next_token}
 use Rattle.mx_view.proofs.Pictured.{same_shown}
 use Rattle.mx_fold.specs.Lists.{Lists, fronts_of, events_in, lists_at}
 use Rattle.mx_fold.specs.Servers.{Server, story}
-use Rattle.mx_fold.specs.Replies.{SyncAsk, Ask, Syncs, Pages, Else, Said, Replied, Showed, PassedOver, heroes_in, reply_of, is_behind, sees_room, answer_to, to_at, page_asked}
+use Rattle.mx_fold.specs.Replies.{SyncAsk, Ask, Syncs, Pages, Else, Said, Replied, Showed, PassedOver, heroes_in, reply_of, is_behind, sees_room, answer_to, asked_gap, page_asked}
 use Rattle.mx_fold.specs.Sent.{IsSeen, sent_of, AreSeen, SeesSaid}
 use Rattle.mx_fold.specs.Exchanges.{ConnectionsSee}
 
@@ -50,9 +50,9 @@ module _ (f : Sieve) (user : List ℕ) (es : List Event) (front : ℕ) where
       let from : ℕ = cond after low (break_at r es front low high) in
       shown_seen (section r es front (window after limit low high)) (of_window from high (length (sendable r es front from high) - limit)) (sent_is_visible r es after limit front low high)
 
-  page_seen : (limit g low high : ℕ) → AllByRecursion (IsSeen user es front) (page_of r es limit g front low high).sent
-  page_seen limit g low high =
-      shown_seen (chunk r es limit front low high) (of_window low high (length (sendable r es front low high) - limit)) (sent_is_visible r es true limit front low high)
+  page_seen : (limit : ℕ) (gap : Gap) → AllByRecursion (IsSeen user es front) (page_of r es limit front gap).sent
+  page_seen limit gap =
+      shown_seen (chunk r es limit front gap.lower gap.upper) (of_window gap.lower gap.upper (length (sendable r es front gap.lower gap.upper) - limit)) (sent_is_visible r es true limit front gap.lower gap.upper)
 
   left_seen : (ask : Sync) (b s : ℕ) (fresh : Bool) (o : Option Event) → AllByRecursion (IsSeen user es front) (left_window r es ask b front s fresh o).sent
   left_seen ask b s fresh None = tt
@@ -124,7 +124,7 @@ module _ {V D F P : Type 0} (w : Server V D F P) (lists : Lists) (user : List �
   said_seen : (asked : Ask F P) → SeesSaid w lists user (answer_to w lists user asked)
   said_seen (Syncs ask) = said_if (Replied ask (reply_of w lists user ask)) (reply_seen ask) (is_behind ask.since (fronts_of lists))
   said_seen (Pages ask) =
-      said_if (Showed ask (page_asked w lists user ask)) (page_seen (w.page_sieve ask.filter ask.room) user (events_in lists ask.room) front ask.limit ask.from_cut (to_at ask.to) ask.from_at)
+      said_if (Showed ask (page_asked w lists user ask)) (page_seen (w.page_sieve ask.filter ask.room) user (events_in lists ask.room) front ask.limit (asked_gap ask))
       (sees_room w lists user ask.room && (nat_le ask.from_cut (fronts_of lists).e && is_behind ask.to (fronts_of lists)))
   said_seen Else = tt
 

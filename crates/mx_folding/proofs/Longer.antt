@@ -91,7 +91,10 @@ same_part {E = E} {K = K} r sends stayed es later after limit f s t pick up in' 
     λ i. record { limited = more i; cut = before_first r.at t (sec i); state = shown_state i; sent = shown_sent i }
 
 pub same_page : {E K : Type 0} → SamePage E K
-same_page {E = E} {K = K} r sends stayed es later limit g e low high up le in' h same =
+same_page {E = E} {K = K} r sends stayed es later limit e gap up le in' h same =
+    let low : ℕ = gap.lower in
+    let high : ℕ = gap.upper in
+    let g : ℕ = gap.front in
     let r' : Room E K = judged_by r sends stayed in
     let long : List E = es ++ later in
     let all : sendable r' long e low high ≡ sendable r es e low high = longer_sendable r sends stayed es later e low high in' h same in

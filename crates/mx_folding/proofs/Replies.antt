@@ -11,7 +11,7 @@ use Rattle.mx_window.proofs.Lasts.{last_of-some, AllByRecursion-current}
 use Rattle.mx_folding.specs.Rooms.{Room, IsRoom, StaysSent, key_is, is_state, is_kept, has, sets_same}
 use Rattle.mx_folding.specs.Sections.{sendable, section, cut, is_limited, window}
 use Rattle.mx_folding.specs.Redactions.{is_named, is_redacted, shown, redact_by}
-use Rattle.mx_folding.specs.Parts.{is_sender, state_list, state_part, is_omitted, picks, picks_new, part_of}
+use Rattle.mx_folding.specs.Parts.{is_sender, state_list, state_part, is_omitted, picks, picks_new, part_of, gap_at}
 use Rattle.mx_folding.specs.Clients.{Entry, Held, Open, held, ClientRoom, empty_room, put_all, gap_if, redact_entry, with_part}
 use Rattle.mx_folding.specs.Agreement.{pictured, Rises, TimelineAgrees, StateAgrees, is_owed, IsCopy, IsDue, RoomAgrees}
 use Rattle.mx_folding.proofs.Redacting.{redact_by-at}
@@ -37,7 +37,7 @@ contained_part r es pick p = AllByRecursion-filter (Contains es) pick (filter (i
 pub held_within : {C : Type 0} (at : C → ℕ) (t low high : ℕ) (tl : List (Entry C)) → Rises at t low high tl → AllByRecursion (λ c. at c ≤ high) (held tl)
 held_within at t low high [] h = tt
 held_within at t low high (Held c ∷ tl) h = (Rises-order at t (at c) high tl h.1, held_within at t (at c) high tl h.1)
-held_within at t low high (Open lower upper front ∷ tl) h = held_within at t upper high tl h.3
+held_within at t low high (Open gap ∷ tl) h = held_within at t gap.upper high tl h.3
 
 -- whom the timeline names is redacted by a front that its copies lie at or before
 pub named_early : {E K : Type 0} (r : Room E K) (es : List E) (front s t : ℕ) (named : ℕ → Bool) (tl : List (Entry E)) → IsRoom r es → s ≤ t → Rises r.at s 0 s tl → AllByRecursion (IsDue r es front named) (held tl)
@@ -79,7 +79,7 @@ pub folds_part : {E K : Type 0} (r : Room E K) (es : List E) (after : Bool) (lim
     → s ≤ t → front ≤ front' → t ≤ front'
     → ((k : K) (x h : E) → s < r.at x → ◌≡◌ {A = Option E} (room.state k) (Some h) → pick (section r es t (window after limit s t)) x ≡ true)
     → ((k : K) (v : E) → has r k v ≡ true
-    → is_owed r b t (room.timeline ++ gap_if (is_limited r es t (window after limit s t)) s (cut r es t (window after limit s t)) t ++ map Held (map (shown r es t) (section r es t (window after limit s t)))) k v ≡ true
+    → is_owed r b t (room.timeline ++ gap_if (is_limited r es t (window after limit s t)) (gap_at s (cut r es t (window after limit s t)) t) ++ map Held (map (shown r es t) (section r es t (window after limit s t)))) k v ≡ true
     → pick (section r es t (window after limit s t)) v ≡ false → r.at v ≤ t → (r.at v ≤ s) × (owed k v ≡ true))
     → TimelineAgrees r es s room.timeline → StateAgrees r es s owed room.state
     → AllByRecursion (IsDue r es front (is_named r (held room.timeline))) (held room.timeline)
@@ -93,7 +93,7 @@ folds_part {E = E} r es after limit s t front front' b pick owed room is stays u
     let z : ℕ = cond after t q in
     let part : List E = map (shown r es t) (state_part r es (pick sec) z) in
     let puts : List E = cond after [] sent in
-    let tl : List (Entry E) = room.timeline ++ gap_if more s q t ++ map Held sent in
+    let tl : List (Entry E) = room.timeline ++ gap_if more (gap_at s q t) ++ map Held sent in
     let named : ℕ → Bool = is_named r (held room.timeline) in
     let named' : ℕ → Bool = is_named r (held (map (redact_entry r sent) tl)) in
     let facts : Sent r es t s t q sec more = section_sent r es after limit t s t is up in

@@ -4,7 +4,7 @@ use Rattle.std.specs.List.{filter, list_any, AllByRecursion}
 use Rattle.mx_folding.specs.Sections.{sendable, section, cut, is_limited, window}
 use Rattle.std.specs.Option.{option_map}
 use Rattle.mx_folding.specs.Rooms.{Room, IsRoom, StaysSent, state_at}
-use Rattle.mx_folding.specs.Parts.{Part, part_of, page_of, picks, picks_new}
+use Rattle.mx_folding.specs.Parts.{Part, Gap, part_of, page_of, picks, picks_new}
 use Rattle.mx_folding.specs.Clients.{Entry, Held, Open, ClientRoom, empty_room, held, with_part, with_page}
 use Rattle.mx_folding.specs.Agreement.{pictured, TimelineAgrees, StateAgrees, is_owed, RoomAgrees}
 
@@ -26,10 +26,10 @@ FoldsNew E K = (r : Room E K) (es : List E) → IsRoom r es → (after : Bool) (
 -- A room that agrees with the picture at t still does after a backward page, judged at a front e of at least t, of a
 -- gap in its timeline. The front of its copies is then at least e.
 abbrev pub FoldsPage : Type 0 → Type 0 → Type 0
-FoldsPage E K = (r : Room E K) (es : List E) → IsRoom r es → (limit b t front front' e lower upper g : ℕ) (before behind : List (Entry E)) (state : K → Option E)
+FoldsPage E K = (r : Room E K) (es : List E) → IsRoom r es → (limit b t front front' e : ℕ) (gap : Gap) (before behind : List (Entry E)) (state : K → Option E)
     → StaysSent r es t → t ≤ e → e ≤ front' → front ≤ front'
-    → RoomAgrees r es b t front (record { state = state; timeline = before ++ Open lower upper g ∷ behind })
-    → RoomAgrees r es b t front' (with_page r lower g before behind (page_of r es limit g e lower upper) state)
+    → RoomAgrees r es b t front (record { state = state; timeline = before ++ Open gap ∷ behind })
+    → RoomAgrees r es b t front' (with_page r gap before behind (page_of r es limit e gap) state)
 
 abbrev pub is_cons : {A : Type 0} → List A → Bool
 is_cons [] = false
@@ -45,7 +45,7 @@ FoldsNothing E K = (r : Room E K) (after : Bool) (s t : ℕ) (part : Part E) (ro
 
 abbrev pub is_in_gap : {C : Type 0} → ℕ → Entry C → Bool
 is_in_gap p (Held c) = false
-is_in_gap p (Open lower upper front) = nat_lt lower p && nat_le p upper
+is_in_gap p (Open gap) = nat_lt gap.lower p && nat_le p gap.upper
 
 -- A timeline that agrees holds the picture's events in order, less those in the stretches of its open gaps.
 abbrev pub HoldsTheRest : Type 0 → Type 0 → Type 0

@@ -29,11 +29,13 @@ is_omitted r redundant b since e = not redundant && (nat_le (r.at e) since && (r
 -- members the member events of the section's senders and of the heroes, less those omitted
 abbrev pub picks : {E K : Type 0} → Room E K → Bool → ℕ → ℕ → ℕ → (K → Bool) → List E → E → Bool
 picks r redundant b since from heroes sent e =
-    nat_lt from (r.at e) || (r.lazy && (key_is r.member (r.key e) && ((key_is (is_sender r sent) (r.key e) || key_is heroes (r.key e)) && not (is_omitted r redundant b since e))))
+    nat_lt from (r.at e) || (r.lazy && (key_is r.member (r.key e)
+    && ((key_is (is_sender r sent) (r.key e) || key_is heroes (r.key e)) && not (is_omitted r redundant b since e))))
 
 -- a new room's reply picks all, but with lazy members of the member events only the user's own, the senders' and the heroes'
 abbrev pub picks_new : {E K : Type 0} → Room E K → (K → Bool) → List E → E → Bool
-picks_new r heroes sent e = not r.lazy || (not (key_is r.member (r.key e)) || (key_is (mine r) (r.key e) || (key_is (is_sender r sent) (r.key e) || key_is heroes (r.key e))))
+picks_new r heroes sent e =
+    not r.lazy || (not (key_is r.member (r.key e)) || (key_is (mine r) (r.key e) || (key_is (is_sender r sent) (r.key e) || key_is heroes (r.key e))))
 
 -- what a reply says of one room
 pub record Part (E : Type 0) : Type 0 where
@@ -61,12 +63,25 @@ pub record Page (E : Type 0) : Type 0 where
   pub members : List E
   pub sent : List E
 
--- the page of (low, high] at the front e; lazy members are those of the state at g, the position of the sync token that
--- the gap was cut at
-abbrev pub page_of : {E K : Type 0} → Room E K → List E → ℕ → ℕ → ℕ → ℕ → ℕ → Page E
-page_of r es limit g e low high = record {
-  more = nat_lt (length (chunk r es limit e low high)) (length (sendable r es e low high));
-  end = before_first r.at high (chunk r es limit e low high);
-  members = cond r.lazy (map (shown r es e) (filter (λ v. key_is r.member (r.key v) && key_is (is_sender r (chunk r es limit e low high)) (r.key v)) (state_list r es g))) [];
-  sent = map (shown r es e) (chunk r es limit e low high);
+-- an open gap of a timeline: after `lower` (the position of a sync token, or 0 for the room's start), up to `upper`, cut at
+-- `front`, the position of its page token
+pub record Gap : Type 0 where
+  pub lower : ℕ
+  pub upper : ℕ
+  pub front : ℕ
+
+abbrev pub gap_at : ℕ → ℕ → ℕ → Gap
+gap_at lower upper front = record { lower = lower; upper = upper; front = front }
+
+-- the member events of the senders of these events in the state at a position
+abbrev pub members_of : {E K : Type 0} → Room E K → List E → ℕ → List E → List E
+members_of r es p sent = filter (λ v. key_is r.member (r.key v) && key_is (is_sender r sent) (r.key v)) (state_list r es p)
+
+-- the page of a gap at the front e; lazy members are those of the state where the gap was cut
+abbrev pub page_of : {E K : Type 0} → Room E K → List E → ℕ → ℕ → Gap → Page E
+page_of r es limit e gap = record {
+  more = nat_lt (length (chunk r es limit e gap.lower gap.upper)) (length (sendable r es e gap.lower gap.upper));
+  end = before_first r.at gap.upper (chunk r es limit e gap.lower gap.upper);
+  members = cond r.lazy (map (shown r es e) (members_of r es gap.front (chunk r es limit e gap.lower gap.upper))) [];
+  sent = map (shown r es e) (chunk r es limit e gap.lower gap.upper);
 }
