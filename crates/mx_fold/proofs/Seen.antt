@@ -11,9 +11,8 @@ use Rattle.mx_event.specs.Shown.{position_of}
 use Rattle.mx_event.specs.declared.event.Event.{Event}
 use Rattle.mx_folding.specs.Rooms.{Room}
 use Rattle.mx_folding.specs.Sections.{sendable, break_at, section, chunk, window}
-use Rattle.mx_folding.specs.Parts.{Part, part_of, page_of, picks, picks_new, Gap}
+use Rattle.mx_folding.specs.Parts.{Part, part_of, page_of, picks, picks_new, Gap, has_some}
 use Rattle.mx_folding.specs.Redactions as redactions
-use Rattle.mx_folding.specs.Laws.{has_some}
 use Rattle.mx_folding.specs.Visible.{Membership, Join, Invite, Leave, Ban, is_visible, joined_at}
 use Rattle.mx_folding.specs.Stories.{Tokens, position, Story, own_at, joined_in, Sync, Told, Nothing, Anew, More, Invited, Left, told_by, told_of, told}
 use Rattle.mx_folding.proofs.Cuts.{sent_is_visible}

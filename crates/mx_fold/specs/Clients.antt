@@ -58,7 +58,8 @@ module _ {V D F P : Type 0} (w : Server V D F P) (user : List ℕ) (f : F) where
 
   abbrev pub page_into : RoomId → Opening Event → Page Event → Holding Event Key V → Holding Event Key V
   page_into room o page had = record {
-    joined = option_map (λ (p : ClientRoom Event Key × V). (with_page (story w no_lists user f room).room o.gap o.before o.behind page p.0.state, p.1)) had.joined;
+    joined = option_map (λ (p : ClientRoom Event Key × V).
+        (with_page (story w no_lists user f room).room o.gap o.before o.behind page p.0.state, p.1)) had.joined;
     invited = had.invited;
   }
 

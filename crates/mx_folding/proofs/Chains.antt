@@ -14,7 +14,7 @@ use Rattle.std.specs.Option.{option_and_then}
 use Rattle.mx_folding.proofs.Pages.{folds_page}
 use Rattle.mx_folding.proofs.Memberships.{folds_room}
 use Rattle.mx_folding.specs.Visible.{Membership, Join, Invite, Leave, Ban, is_join}
-use Rattle.mx_folding.specs.Stories.{Tokens, IsTokens, Story, own_at, IsStory, Standing, Out, In, Asked, standing_by, standing_of, standing, Holding, Holds, HoldingAgrees, IsNext, IsBase}
+use Rattle.mx_folding.specs.Stories.{Tokens, IsTokens, Story, own_at, IsStory, Standing, Out, In, Asked, standing_by, standing_of, standing, Holding, StandingAgrees, HoldingAgrees, IsNext, IsBase}
 use Rattle.mx_folding.specs.Chains.{Client, new_client, Opening, around, Turn, Synced, Paged, base_of, paged, with_paged, after_turn, after_turns, IsOpen, IsPast, AreTurns, Agrees, ChainsFold}
 
 -- b lies at or before the token, and the token at or before the front
@@ -53,8 +53,8 @@ stands_in g true (Some e) h = by (g.membership e) h where
 
 -- a page of a room that the user is joined in
 page_in : {E K V D T : Type 0} (k : Tokens T) (g : Story E K V D T) (story : IsStory k g) (limit b e front front' : ℕ) (i : T) (o : Opening E) (had : Holding E K V) (st : Standing)
-    → standing g (k.event i) ≡ st → k.event i ≤ e → e ≤ front' → front ≤ front' → IsOpen (Some o) had → Holds k g b i front st had
-    → Holds k g b i front' st (with_paged g limit e (Some o) had)
+    → standing g (k.event i) ≡ st → k.event i ≤ e → e ≤ front' → front ≤ front' → IsOpen (Some o) had → StandingAgrees k g b i front st had
+    → StandingAgrees k g b i front' st (with_paged g limit e (Some o) had)
 page_in k g story limit b e front front' i o had Out is past upto later open' h = absurd (cc (h.0, open'.2))
 page_in k g story limit b e front front' i o had (Asked ids) is past upto later open' h = absurd (cc (h.0, open'.2))
 page_in {E = E} {K = K} {V = V} k g story limit b e front front' i o had In is past upto later open' h =
@@ -74,7 +74,7 @@ page_in {E = E} {K = K} {V = V} k g story limit b e front front' i o had In is p
     )
 
 -- a later front asks no more of what is held
-holds_later : {E K V D T : Type 0} (k : Tokens T) (g : Story E K V D T) (b : ℕ) (i : T) (front front' : ℕ) (st : Standing) (had : Holding E K V) → front ≤ front' → Holds k g b i front st had → Holds k g b i front' st had
+holds_later : {E K V D T : Type 0} (k : Tokens T) (g : Story E K V D T) (b : ℕ) (i : T) (front front' : ℕ) (st : Standing) (had : Holding E K V) → front ≤ front' → StandingAgrees k g b i front st had → StandingAgrees k g b i front' st had
 holds_later k g b i front front' Out had up h = h
 holds_later k g b i front front' (Asked ids) had up h = h
 holds_later k g b i front front' In had up h =

@@ -9,11 +9,11 @@ use Rattle.mx_window.proofs.Intervals.{between-within}
 use Rattle.mx_folding.specs.Rooms.{Room, state_at, mine}
 use Rattle.mx_folding.specs.Sections.{sendable}
 use Rattle.mx_folding.specs.Redactions.{redact_by}
-use Rattle.mx_folding.specs.Parts.{is_sender}
+use Rattle.mx_folding.specs.Parts.{is_sender, is_cons}
 use Rattle.mx_folding.specs.Clients.{Entry, Held, Open, held, ClientRoom, put_all, redact_entry, with_part}
 use Rattle.mx_folding.specs.Agreement.{pictured, filled, Rises, is_gap_before}
 use Rattle.mx_folding.proofs.Timelines.{filled-held}
-use Rattle.mx_folding.specs.Laws.{is_cons, FoldsNothing, is_in_gap, HoldsTheRest, HoldsTheState, HoldsAll}
+use Rattle.mx_folding.specs.Laws.{FoldsNothing, is_in_gap, OpenTimeline, WholeState, ClosedTimeline}
 
 same_option : {E : Type 0} (f : E → E) → ((e : E) → f e ≡ e) → (o : Option E) → option_map f o ≡ o
 same_option f h None = refl
@@ -91,8 +91,8 @@ rest_of at picture lies t low high (Open gap ∷ tl) h =
     (λ p k. ap (λ b. not (b || list_any (is_in_gap p) tl)) (and_right (nat_lt gap.lower p) (nat_le p gap.upper) (lt-leb p gap.upper k))) (filled at picture tl) (filled_above at picture lies t gap.upper high tl h.3)) in
     rest ∙ sym same ∙ sym (filter-append outside (picture gap.lower gap.upper) (filled at picture tl) ∙ ap (λ l. l ++ filter outside (filled at picture tl)) out)
 
-pub holds_the_rest : {E K : Type 0} → HoldsTheRest E K
-holds_the_rest r es t tl agrees =
+pub open_timeline : {E K : Type 0} → OpenTimeline E K
+open_timeline r es t tl agrees =
     rest_of r.at (pictured r es t) (λ l u. AllByRecursion-map (λ p. (l < p) × (p ≤ u)) r.at (sendable r es t l u)
     (AllByRecursion-filter (λ e. (l < r.at e) × (r.at e ≤ u)) (r.sends t) (between r.at l u es) (between-within r.at l u es))) t 0 t tl agrees.order
     ∙ ap (filter (λ p. not (list_any (is_in_gap p) tl))) agrees.whole
@@ -108,10 +108,10 @@ owed_all false m rest h = refl
 owed_all true false rest h = refl
 owed_all true true rest h = absurd (true≢false h)
 
-pub holds_the_state : {E K : Type 0} → HoldsTheState E K
-holds_the_state r es b t tl state agrees k h =
+pub whole_state : {E K : Type 0} → WholeState E K
+whole_state r es b t tl state agrees k h =
     same_state r.at (state k) (state_at r es t k) (agrees.right k)
     (λ v is. agrees.enough k v is (owed_all r.lazy (r.member k) (mine r k || (is_sender r (held tl) k || ((r.stayed b t && nat_lt b (r.at v)) || list_any (is_gap_before (r.at v)) tl))) h))
 
-pub holds_all : {E K : Type 0} → HoldsAll E K
-holds_all r es t cs agrees = sym (filled-held r.at (pictured r es t) cs) ∙ agrees.whole
+pub closed_timeline : {E K : Type 0} → ClosedTimeline E K
+closed_timeline r es t cs agrees = sym (filled-held r.at (pictured r es t) cs) ∙ agrees.whole

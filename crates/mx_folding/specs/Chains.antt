@@ -33,8 +33,8 @@ pub data Turn (X E K T : Type 0) : Type 0 where
 
 -- b of the first token is its position, and later tokens keep it
 abbrev pub base_of : {T : Type 0} → Tokens T → ℕ → Option T → T → ℕ
-base_of k b None j = k.event j
-base_of k b (Some i) j = b
+base_of ts b None j = ts.event j
+base_of ts b (Some i) j = b
 
 abbrev pub paged : {E K V D T : Type 0} → Story E K V D T → ℕ → ℕ → Opening E → ClientRoom E K × V → ClientRoom E K × V
 paged g limit e o had = (with_page g.room o.gap o.before o.behind (page_of g.room g.events limit e o.gap) had.0.state, had.1)
@@ -45,13 +45,13 @@ with_paged g limit e (Some o) had = record { joined = option_map (paged g limit 
 
 -- the client after a turn
 abbrev pub after_turn : {X E K V D T : Type 0} → Tokens T → (X → Story E K V D T) → Client X E K V T → Turn X E K T → Client X E K V T
-after_turn k w c (Synced ask heroes j) = record {
+after_turn ts w c (Synced ask heroes j) = record {
   token = Some j;
-  base = base_of k c.base c.token j;
-  front = max c.front (k.event j);
-  rooms = λ x. with_told (w x) ask.after (position k c.token) (k.event j) (told k (w x) ask (heroes x) (base_of k c.base c.token j) c.token j) (c.rooms x);
+  base = base_of ts c.base c.token j;
+  front = max c.front (ts.event j);
+  rooms = λ x. with_told (w x) ask.after (position ts c.token) (ts.event j) (told ts (w x) ask (heroes x) (base_of ts c.base c.token j) c.token j) (c.rooms x);
 }
-after_turn k w c (Paged limit e openings) = record {
+after_turn ts w c (Paged limit e openings) = record {
   token = c.token;
   base = c.base;
   front = max c.front e;
@@ -59,8 +59,8 @@ after_turn k w c (Paged limit e openings) = record {
 }
 
 abbrev pub after_turns : {X E K V D T : Type 0} → Tokens T → (X → Story E K V D T) → Client X E K V T → List (Turn X E K T) → Client X E K V T
-after_turns k w c [] = c
-after_turns k w c (turn ∷ turns) = after_turns k w (after_turn k w c turn) turns
+after_turns ts w c [] = c
+after_turns ts w c (turn ∷ turns) = after_turns ts w (after_turn ts w c turn) turns
 
 -- the gap stands open in the room's timeline
 abbrev pub IsOpen : {E K V : Type 0} → Option (Opening E) → Holding E K V → Type 0
@@ -69,24 +69,24 @@ IsOpen {E = E} {K = K} {V = V} (Some o) had = (room : ClientRoom E K) × (view :
 
 -- the client's token lies at or before the front
 abbrev pub IsPast : {T : Type 0} → Tokens T → Option T → ℕ → Type 0
-IsPast k None e = ⊤
-IsPast k (Some i) e = k.event i ≤ e
+IsPast ts None e = ⊤
+IsPast ts (Some i) e = ts.event i ≤ e
 
 -- a reply answers the client's token; a page is of an open gap, at a front of at least the token's
 abbrev pub IsTurn : {X E K V T : Type 0} → Tokens T → Client X E K V T → Turn X E K T → Type 0
-IsTurn k c (Synced ask heroes j) = IsNext k c.token j
-IsTurn {X = X} k c (Paged limit e openings) = IsPast k c.token e × ((x : X) → IsOpen (openings x) (c.rooms x))
+IsTurn ts c (Synced ask heroes j) = IsNext ts c.token j
+IsTurn {X = X} ts c (Paged limit e openings) = IsPast ts c.token e × ((x : X) → IsOpen (openings x) (c.rooms x))
 
 abbrev pub AreTurns : {X E K V D T : Type 0} → Tokens T → (X → Story E K V D T) → Client X E K V T → List (Turn X E K T) → Type 0
-AreTurns k w c [] = ⊤
-AreTurns k w c (turn ∷ turns) = IsTurn k c turn × AreTurns k w (after_turn k w c turn) turns
+AreTurns ts w c [] = ⊤
+AreTurns ts w c (turn ∷ turns) = IsTurn ts c turn × AreTurns ts w (after_turn ts w c turn) turns
 
 -- the client holds of each room what the picture at its token has
 abbrev pub Agrees : {X E K V D T : Type 0} → Tokens T → (X → Story E K V D T) → Client X E K V T → Type 0
-Agrees {X = X} k w c = (x : X) → HoldingAgrees k (w x) c.base c.token c.front (c.rooms x)
+Agrees {X = X} ts w c = (x : X) → HoldingAgrees ts (w x) c.base c.token c.front (c.rooms x)
 
 -- The folding law. From a client without a token, after any sync replies that answer its tokens and any pages of its
 -- gaps, it agrees with the picture at its token.
 abbrev pub ChainsFold : Type 0 → Type 0 → Type 0 → Type 0 → Type 0 → Type 0 → Type 0
-ChainsFold X E K V D T = (k : Tokens T) → IsTokens k → (w : X → Story E K V D T) → ((x : X) → IsStory k (w x)) → (turns : List (Turn X E K T))
-    → AreTurns k w (new_client X E K V T) turns → Agrees k w (after_turns k w (new_client X E K V T) turns)
+ChainsFold X E K V D T = (ts : Tokens T) → IsTokens ts → (w : X → Story E K V D T) → ((x : X) → IsStory ts (w x)) → (turns : List (Turn X E K T))
+    → AreTurns ts w (new_client X E K V T) turns → Agrees ts w (after_turns ts w (new_client X E K V T) turns)

@@ -1,6 +1,6 @@
 -- What a sync reply and a page say of one room: state part, section and page members, with and without lazy members
 -- (Client-Server API, Syncing, and Lazy-loading room members).
-use Rattle.std.specs.Prelude.{ℕ, Bool, cond, not, ◌&&◌, ◌||◌, List, [], length, map, nat_lt, nat_le}
+use Rattle.std.specs.Prelude.{ℕ, Bool, cond, not, ◌&&◌, ◌||◌, List, [], length, map, nat_lt, nat_le, true, false, ◌∷◌}
 use Rattle.std.specs.List.{filter, list_any}
 use Rattle.mx_window.specs.Windows.{between, before_first}
 use Rattle.mx_window.specs.Lasts.{current}
@@ -54,6 +54,14 @@ part_of r es front w pick = record {
   state = map (shown r es front) (state_part r es (pick (section r es front w)) (cond w.after w.high (cut r es front w)));
   sent = map (shown r es front) (section r es front w);
 }
+
+abbrev pub is_cons : {A : Type 0} → List A → Bool
+is_cons [] = false
+is_cons (x ∷ xs) = true
+
+-- the part says something of the room
+abbrev pub has_some : {E : Type 0} → Part E → Bool
+has_some part = part.limited || (is_cons part.state || is_cons part.sent)
 
 -- what a backward page says
 pub record Page (E : Type 0) : Type 0 where
