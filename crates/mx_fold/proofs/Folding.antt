@@ -13,7 +13,7 @@ use Rattle.mx_folding.specs.Clients.{ClientRoom, with_page}
 use Rattle.mx_folding.specs.Parts.{Page, page_of}
 use Rattle.mx_folding.specs.Stories.{position, Story, Sync, told, standing, Holding, with_told, IsNext, IsBase}
 use Rattle.mx_folding.specs.Chains as chains
-use Rattle.mx_folding.specs.Chains.{new_client, Gap, around, Turn, Synced, Paged, with_paged, after_turn, after_turns, IsOpen, IsTurn, AreTurns}
+use Rattle.mx_folding.specs.Chains.{new_client, Opening, around, Turn, Synced, Paged, with_paged, after_turn, after_turns, IsOpen, IsTurn, AreTurns}
 use Rattle.mx_view.specs.Rooms.{Key, room_of}
 use Rattle.mx_view.specs.Valid.{Rooms}
 use Rattle.mx_view.specs.Tokens.{tokens, is_before, same_token, next_token}
@@ -24,8 +24,8 @@ use Rattle.mx_core.proofs.Covering.{front_rises}
 use Rattle.mx_fold.specs.Lists.{Lists, Histories, Counts, AreFewer, AreLawful, no_lists, no_stores, upto, fronts_of, counts_of, lists_of, lists_at, events_in}
 use Rattle.mx_fold.specs.Servers.{Server, IsServer, RestsFold, rest_of, story}
 use Rattle.mx_fold.specs.Accounts.{content_at, account_at, account_sent}
-use Rattle.mx_fold.specs.Replies.{SyncAsk, PageAsk, Ask, Syncs, Pages, Else, Replied, Showed, PassedOver, Reply, to_at, is_behind, heroes_in, reply_of, page_asked, sees_room, answer_to}
-use Rattle.mx_fold.specs.Clients.{Client, nothing_held, after_reply, with_reply, page_into, after_page, gap_of, with_gap, with_shown, with_said, chain, Agrees}
+use Rattle.mx_fold.specs.Replies.{SyncAsk, PageAsk, Ask, Syncs, Pages, Else, Replied, Showed, PassedOver, Reply, to_at, asked_gap, is_behind, heroes_in, reply_of, page_asked, sees_room, answer_to}
+use Rattle.mx_fold.specs.Clients.{Client, nothing_held, after_reply, with_reply, page_into, after_page, opening_of, with_gap, with_shown, with_said, chain, Agrees}
 use Rattle.mx_fold.specs.Exchanges.{Mark, exchange_at, exchanges, MarksRise, ConnectionsAgree}
 use Rattle.mx_fold.proofs.Readers.{same_told_read, page_read}
 use Rattle.mx_fold.proofs.Marked.{mark_upto, events_stand, accounts_stand, told_at_mark, page_at_mark}
@@ -179,49 +179,46 @@ module _ {V D F P : Type 0} (w : Server V D F P) (server : IsServer w) (h : Hist
 
     -- ---- a page
 
-    abbrev gaps : RoomId → Gap Event → RoomId → Option (Gap Event)
+    abbrev gaps : RoomId → Opening Event → RoomId → Option (Opening Event)
     gaps room gap other = cond (same_room other room) (Some gap) None
 
-    opens : (room : RoomId) (gap : Gap Event) (c : Client V) → IsOpen (Some gap) (c.rooms room) → (x : RoomId) (b : Bool) → same_room x room ≡ b → IsOpen (cond b (Some gap) None) (c.rooms x)
+    opens : (room : RoomId) (gap : Opening Event) (c : Client V) → IsOpen (Some gap) (c.rooms room) → (x : RoomId) (b : Bool) → same_room x room ≡ b → IsOpen (cond b (Some gap) None) (c.rooms x)
     opens room gap c is x false e = tt
     opens room gap c is x true e = subst (λ y. IsOpen (Some gap) (c.rooms y)) (sym (same_room_is x room e)) is
 
-    page_same : (room : RoomId) (gap : Gap Event) (page : Page Event) (limit e : ℕ) → page ≡ page_of (stories room).room (stories room).events limit gap.front e gap.lower gap.upper
+    page_same : (room : RoomId) (gap : Opening Event) (page : Page Event) (limit e : ℕ) → page ≡ page_of (stories room).room (stories room).events limit e gap.gap
         → (had : Holding Event Key V) (x : RoomId) (b : Bool) → same_room x room ≡ b → cond b (page_into w user f x gap page had) had ≡ with_paged (stories x) limit e (cond b (Some gap) None) had
     page_same room gap page limit e is had x false same = refl
     page_same room gap page limit e is had x true same =
-        let there : page ≡ page_of (stories x).room (stories x).events limit gap.front e gap.lower gap.upper =
-        subst (λ y. page ≡ page_of (stories y).room (stories y).events limit gap.front e gap.lower gap.upper) (sym (same_room_is x room same)) is in
-        let read = λ (p : ClientRoom Event Key × V). page_read w user f x no_lists final gap.lower gap.front gap.before gap.behind page p.0.state
-        ∙ ap (λ pg. with_page (stories x).room gap.lower gap.front gap.before gap.behind pg p.0.state) there in
+        let there : page ≡ page_of (stories x).room (stories x).events limit e gap.gap =
+        subst (λ y. page ≡ page_of (stories y).room (stories y).events limit e gap.gap) (sym (same_room_is x room same)) is in
+        let read = λ (p : ClientRoom Event Key × V). page_read w user f x no_lists final gap.gap gap.before gap.behind page p.0.state
+        ∙ ap (λ pg. with_page (stories x).room gap.gap gap.before gap.behind pg p.0.state) there in
         λ i. record { joined = option_map (λ (p : ClientRoom Event Key × V). (read p i, p.1)) had.joined; invited = had.invited }
 
-    pages : (asks : PageAsk P) (c : Client V) → w.fits f asks.filter ≡ true → Kept low c → (o : Option (Gap Event)) → gap_of w user f asks (c.rooms asks.room) ≡ o
+    pages : (asks : PageAsk P) (c : Client V) → w.fits f asks.filter ≡ true → Kept low c → (o : Option (Opening Event)) → opening_of w user f asks (c.rooms asks.room) ≡ o
         → Kept fronts (with_gap w user f fronts.e asks.room c (page_asked w here user asks) o)
     pages asks c fits kept None none = passed low fronts (Some c) up kept
     pages asks c fits kept (Some gap) some =
         let room = asks.room in
         let page = page_asked w here user asks in
-        let found = found_in (to_at asks.to) asks.from_at asks.from_cut (c.rooms room).joined gap some in
+        let found = found_in (asked_gap asks) (c.rooms room).joined gap some in
         let p : ClientRoom Event Key × V = found.0 in
         let joined : (c.rooms room).joined ≡ Some p = found.1 in
-        let at : Found (to_at asks.to) asks.from_at asks.from_cut p.0.timeline gap = found.2 in
+        let at : Found (asked_gap asks) p.0.timeline gap = found.2 in
         let agrees = rooms_agree low c kept in
         let rises = rises_in tokens (stories room) c.token.b c.token c.front (standing (stories room) c.token.e) (c.rooms room) p joined (agrees room) in
-        let within = gap_within position_of c.token.e (to_at asks.to) asks.from_at asks.from_cut p.0.timeline gap at rises in
+        let within = gap_within position_of c.token.e (asked_gap asks) p.0.timeline gap at rises in
         let reached = before_trans c.token low fronts kept.reached up in
         let past : c.token.e ≤ fronts.e = (before_parts c.token fronts reached).0 in
         let cut_in : asks.from_cut ≤ c.token.e = within.0 in
         let order : to_at asks.to ≤ asks.from_at = within.1 in
         let upper_in : asks.from_at ≤ c.token.e = within.2 in
-        let at_end : page ≡ page_of (stories room).room (stories room).events asks.limit asks.from_cut fronts.e (to_at asks.to) asks.from_at =
-        ap (λ l. page_of (room_of (w.page_sieve asks.filter room) user (events_in l room)) (events_in l room) asks.limit asks.from_cut fronts.e (to_at asks.to) asks.from_at) mark
-        ∙ page_at_mark w server final (events_stand h lawful) user f asks.filter room fronts asks.limit asks.from_cut (to_at asks.to) asks.from_at fits (omega arith) order (omega arith) in
-        let lower_is = at.1 in
-        let upper_is = at.2 in
-        let cut_is = at.3 in
-        let gap_page : page ≡ page_of (stories room).room (stories room).events asks.limit gap.front fronts.e gap.lower gap.upper =
-        at_end ∙ sym (λ i. page_of (stories room).room (stories room).events asks.limit (cut_is i) fronts.e (lower_is i) (upper_is i)) in
+        let at_end : page ≡ page_of (stories room).room (stories room).events asks.limit fronts.e (asked_gap asks) =
+        ap (λ l. page_of (room_of (w.page_sieve asks.filter room) user (events_in l room)) (events_in l room) asks.limit fronts.e (asked_gap asks)) mark
+        ∙ page_at_mark w server final (events_stand h lawful) user f asks.filter room fronts asks.limit (asked_gap asks) fits (omega arith) order (omega arith) in
+        let gap_page : page ≡ page_of (stories room).room (stories room).events asks.limit fronts.e gap.gap =
+        at_end ∙ sym (ap (page_of (stories room).room (stories room).events asks.limit fronts.e) at.1) in
         let turn : Turn RoomId Event Key SyncToken = Paged asks.limit fronts.e (gaps room gap) in
         let is_turn : IsTurn tokens (folded c) turn = (past, λ x. opens room gap c (p.0, p.1, joined, at.0) x (same_room x room) refl) in
         let rooms = λ (x : RoomId). page_same room gap page asks.limit fronts.e gap_page (c.rooms x) x (same_room x room) refl in
@@ -238,7 +235,7 @@ module _ {V D F P : Type 0} (w : Server V D F P) (server : IsServer w) (h : Hist
 
     shown : (asks : PageAsk P) (client : Option (Client V)) → w.fits f asks.filter ≡ true → KeptIf low client → KeptIf fronts (with_shown w user f fronts.e asks (page_asked w here user asks) client)
     shown asks None fits kept = tt
-    shown asks (Some c) fits kept = pages asks c fits kept (gap_of w user f asks (c.rooms asks.room)) refl
+    shown asks (Some c) fits kept = pages asks c fits kept (opening_of w user f asks (c.rooms asks.room)) refl
 
     -- ---- an answer to the device
 

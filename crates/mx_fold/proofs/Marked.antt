@@ -15,7 +15,7 @@ use Rattle.mx_event.specs.Shown.{position_of}
 use Rattle.mx_event.specs.declared.event.Event.{Event}
 use Rattle.mx_account.specs.Entries as account
 use Rattle.mx_account.specs.declared.entry.Entry.{Entry}
-use Rattle.mx_folding.specs.Parts.{page_of}
+use Rattle.mx_folding.specs.Parts.{page_of, Gap}
 use Rattle.mx_folding.specs.Stories.{Sync, told, IsNext, IsBase}
 use Rattle.mx_view.specs.Later.{SameRest}
 use Rattle.mx_view.specs.Rooms.{Key, room_of, story_of}
@@ -83,13 +83,13 @@ module _ {V D F P : Type 0} (w : Server V D F P) (server : IsServer w) (lists : 
       ∙ ap (λ es. told tokens (story_of (w.sieve f room) (w.picks f room) user es (rest_of w lists user f room)) ask heroes b since j) (split_in j.e room)
 
   -- a page at a front, of a filter that lets the same pass
-  pub page_at_mark : (f : F) (p : P) (room : RoomId) (fronts : SyncToken) (limit g low high : ℕ) → w.fits f p ≡ true → g ≤ fronts.e → low ≤ high → high ≤ fronts.e
-      → page_of (room_of (w.page_sieve p room) user (events_in (upto fronts lists) room)) (events_in (upto fronts lists) room) limit g fronts.e low high
-      ≡ page_of (story w lists user f room).room (events_in lists room) limit g fronts.e low high
-  page_at_mark f p room fronts limit g low high fits up le in' =
-      let longer = same_paged (w.page_sieve p room) user (of_room room (take fronts.e lists.events)) (later_in fronts.e room) limit g fronts.e low high up le in' (later_above fronts.e room) in
+  pub page_at_mark : (f : F) (p : P) (room : RoomId) (fronts : SyncToken) (limit : ℕ) (gap : Gap) → w.fits f p ≡ true → gap.front ≤ fronts.e → gap.lower ≤ gap.upper → gap.upper ≤ fronts.e
+      → page_of (room_of (w.page_sieve p room) user (events_in (upto fronts lists) room)) (events_in (upto fronts lists) room) limit fronts.e gap
+      ≡ page_of (story w lists user f room).room (events_in lists room) limit fronts.e gap
+  page_at_mark f p room fronts limit gap fits up le in' =
+      let longer = same_paged (w.page_sieve p room) user (of_room room (take fronts.e lists.events)) (later_in fronts.e room) limit fronts.e gap up le in' (later_above fronts.e room) in
       let events = split_in fronts.e room in
       let passes = (server.pages f p fits room).0 in
       let lazy = (server.pages f p fits room).1 in
-      sym longer ∙ (λ i. page_of (room_of (w.page_sieve p room) user (events i)) (events i) limit g fronts.e low high)
-      ∙ (λ i. page_of (room_of (record (w.sieve f room) { passes = passes i; lazy = lazy i }) user (events_in lists room)) (events_in lists room) limit g fronts.e low high)
+      sym longer ∙ (λ i. page_of (room_of (w.page_sieve p room) user (events i)) (events i) limit fronts.e gap)
+      ∙ (λ i. page_of (room_of (record (w.sieve f room) { passes = passes i; lazy = lazy i }) user (events_in lists room)) (events_in lists room) limit fronts.e gap)

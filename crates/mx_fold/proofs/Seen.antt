@@ -10,10 +10,9 @@ use Rattle.mx_ids.specs.declared.sync_token.SyncToken.{SyncToken}
 use Rattle.mx_event.specs.Shown.{position_of}
 use Rattle.mx_event.specs.declared.event.Event.{Event}
 use Rattle.mx_folding.specs.Rooms.{Room}
-use Rattle.mx_folding.specs.Sections.{sendable, break_at, section, chunk}
-use Rattle.mx_folding.specs.Parts.{Part, part_of, page_of, picks, picks_new}
+use Rattle.mx_folding.specs.Sections.{sendable, break_at, section, chunk, window}
+use Rattle.mx_folding.specs.Parts.{Part, part_of, page_of, picks, picks_new, Gap, has_some}
 use Rattle.mx_folding.specs.Redactions as redactions
-use Rattle.mx_folding.specs.Laws.{has_some}
 use Rattle.mx_folding.specs.Visible.{Membership, Join, Invite, Leave, Ban, is_visible, joined_at}
 use Rattle.mx_folding.specs.Stories.{Tokens, position, Story, own_at, joined_in, Sync, Told, Nothing, Anew, More, Invited, Left, told_by, told_of, told}
 use Rattle.mx_folding.proofs.Cuts.{sent_is_visible}
@@ -24,7 +23,7 @@ use Rattle.mx_view.specs.Tokens.{tokens, next_token}
 use Rattle.mx_view.proofs.Pictured.{same_shown}
 use Rattle.mx_fold.specs.Lists.{Lists, fronts_of, events_in, lists_at}
 use Rattle.mx_fold.specs.Servers.{Server, story}
-use Rattle.mx_fold.specs.Replies.{SyncAsk, Ask, Syncs, Pages, Else, Said, Replied, Showed, PassedOver, heroes_in, reply_of, is_behind, sees_room, answer_to, to_at, page_asked}
+use Rattle.mx_fold.specs.Replies.{SyncAsk, Ask, Syncs, Pages, Else, Said, Replied, Showed, PassedOver, heroes_in, reply_of, is_behind, sees_room, answer_to, asked_gap, page_asked}
 use Rattle.mx_fold.specs.Sent.{IsSeen, sent_of, AreSeen, SeesSaid}
 use Rattle.mx_fold.specs.Exchanges.{ConnectionsSee}
 
@@ -45,20 +44,20 @@ module _ (f : Sieve) (user : List ℕ) (es : List Event) (front : ℕ) where
       AllByRecursion-drop (Contains es) n (sendable r es front low high)
       (AllByRecursion-filter (Contains es) (r.sends front) (between position_of low high es) (AllByRecursion-filter (Contains es) (λ (e : Event). nat_lt low e.id.at && nat_le e.id.at high) es (AllByRecursion-contained es)))
 
-  part_seen : (after : Bool) (limit low high : ℕ) (pick : List Event → Event → Bool) → AllByRecursion (IsSeen user es front) (part_of r es after limit front low high pick).sent
+  part_seen : (after : Bool) (limit low high : ℕ) (pick : List Event → Event → Bool) → AllByRecursion (IsSeen user es front) (part_of r es front (window after limit low high) pick).sent
   part_seen after limit low high pick =
       let from : ℕ = cond after low (break_at r es front low high) in
-      shown_seen (section r es after limit front low high) (of_window from high (length (sendable r es front from high) - limit)) (sent_is_visible r es after limit front low high)
+      shown_seen (section r es front (window after limit low high)) (of_window from high (length (sendable r es front from high) - limit)) (sent_is_visible r es after limit front low high)
 
-  page_seen : (limit g low high : ℕ) → AllByRecursion (IsSeen user es front) (page_of r es limit g front low high).sent
-  page_seen limit g low high =
-      shown_seen (chunk r es limit front low high) (of_window low high (length (sendable r es front low high) - limit)) (sent_is_visible r es true limit front low high)
+  page_seen : (limit : ℕ) (gap : Gap) → AllByRecursion (IsSeen user es front) (page_of r es limit front gap).sent
+  page_seen limit gap =
+      shown_seen (chunk r es limit front gap.lower gap.upper) (of_window gap.lower gap.upper (length (sendable r es front gap.lower gap.upper) - limit)) (sent_is_visible r es true limit front gap.lower gap.upper)
 
   left_seen : (ask : Sync) (b s : ℕ) (fresh : Bool) (o : Option Event) → AllByRecursion (IsSeen user es front) (left_window r es ask b front s fresh o).sent
   left_seen ask b s fresh None = tt
   left_seen ask b s fresh (Some l) = by (nat_lt s l.id.at) where
     by : (c : Bool) → AllByRecursion (IsSeen user es front)
-        (cond c (part_of r es ask.after ask.limit front (cond fresh 0 s) l.id.at (pick_in r ask b s fresh)) (record { limited = false; cut = front; state = []; sent = [] })).sent
+        (cond c (part_of r es front (window ask.after ask.limit (cond fresh 0 s) l.id.at) (pick_in r ask b s fresh)) (record { limited = false; cut = front; state = []; sent = [] })).sent
     by true = part_seen ask.after ask.limit (cond fresh 0 s) l.id.at (pick_in r ask b s fresh)
     by false = tt
 
@@ -100,8 +99,8 @@ module _ {V D F P : Type 0} (w : Server V D F P) (lists : Lists) (user : List �
       let heroes : Key → Bool = heroes_in w lists user ask room in
       let pick_new = picks_new g.room heroes in
       let pick = picks g.room ask.sync.redundant b s (cond ask.sync.full 0 s) heroes in
-      let anew = part_of g.room es ask.sync.after ask.sync.limit j.e 0 j.e pick_new in
-      let more = part_of g.room es ask.sync.after ask.sync.limit j.e s j.e pick in
+      let anew = part_of g.room es j.e (window ask.sync.after ask.sync.limit 0 j.e) pick_new in
+      let more = part_of g.room es j.e (window ask.sync.after ask.sync.limit s j.e) pick in
       subst (λ n. AllByRecursion (IsSeen user es n) (sent_of (told tokens g ask.sync heroes b ask.since j))) same
       (sent_told tokens g j ask.sync.leave anew more (IsSeen user es j.e)
       (part_seen sieve user es j.e ask.sync.after ask.sync.limit 0 j.e pick_new) (part_seen sieve user es j.e ask.sync.after ask.sync.limit s j.e pick) g.picked ask.since (own_at g j.e))
@@ -124,7 +123,7 @@ module _ {V D F P : Type 0} (w : Server V D F P) (lists : Lists) (user : List �
   said_seen : (asked : Ask F P) → SeesSaid w lists user (answer_to w lists user asked)
   said_seen (Syncs ask) = said_if (Replied ask (reply_of w lists user ask)) (reply_seen ask) (is_behind ask.since (fronts_of lists))
   said_seen (Pages ask) =
-      said_if (Showed ask (page_asked w lists user ask)) (page_seen (w.page_sieve ask.filter ask.room) user (events_in lists ask.room) front ask.limit ask.from_cut (to_at ask.to) ask.from_at)
+      said_if (Showed ask (page_asked w lists user ask)) (page_seen (w.page_sieve ask.filter ask.room) user (events_in lists ask.room) front ask.limit (asked_gap ask))
       (sees_room w lists user ask.room && (nat_le ask.from_cut (fronts_of lists).e && is_behind ask.to (fronts_of lists)))
   said_seen Else = tt
 

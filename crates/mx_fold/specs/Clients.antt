@@ -6,17 +6,17 @@ use Rattle.mx_ids.specs.declared.sync_token.SyncToken.{SyncToken}
 use Rattle.mx_json.specs.declared.value.Json.{Json}
 use Rattle.mx_event.specs.Lawful.{same_room}
 use Rattle.mx_event.specs.declared.event.Event.{Event}
-use Rattle.mx_folding.specs.Parts.{Page}
+use Rattle.mx_folding.specs.Parts.{Page, Gap}
 use Rattle.mx_folding.specs.Clients.{Entry, Held, Open, ClientRoom, with_page}
 use Rattle.mx_folding.specs.Stories.{position, Holding, with_told}
-use Rattle.mx_folding.specs.Chains.{Gap}
+use Rattle.mx_folding.specs.Chains.{Opening}
 use Rattle.mx_view.specs.Rooms.{Key}
 use Rattle.mx_view.specs.Tokens.{tokens, same_token}
 use Rattle.mx_fold.specs.Lists.{Lists, no_lists, fronts_of}
 use Rattle.mx_fold.specs.Servers.{Server, story}
 use Rattle.mx_fold.specs.Accounts.{content_at, account_at}
 use Rattle.mx_fold.specs.Pictures.{HoldsPicture}
-use Rattle.mx_fold.specs.Replies.{PageAsk, Reply, Said, Replied, Showed, PassedOver, to_at}
+use Rattle.mx_fold.specs.Replies.{PageAsk, Reply, Said, Replied, Showed, PassedOver, asked_gap}
 
 -- *Client*. `front` is the greatest event front of its token and of the pages so far, which a client needn't keep.
 pub record Client (V : Type 0) : Type 0 where
@@ -28,14 +28,16 @@ pub record Client (V : Type 0) : Type 0 where
 abbrev pub nothing_held : (V : Type 0) → RoomId → Holding Event Key V
 nothing_held V room = record { joined = None; invited = None }
 
--- the first open gap after `low`, up to `high`, that was cut at `cut`
-abbrev pub find_gap : {E : Type 0} → ℕ → ℕ → ℕ → List (Entry E) → Option (Gap E)
-find_gap low high cut [] = None
-find_gap low high cut (Held c ∷ es) = option_map (λ (g : Gap _). record g { before = Held c ∷ g.before }) (find_gap low high cut es)
-find_gap low high cut (Open lower upper front ∷ es) =
-    cond (nat_eq lower low && (nat_eq upper high && nat_eq front cut))
-        (Some (record { before = []; lower = lower; upper = upper; front = front; behind = es }))
-    (option_map (λ (g : Gap _). record g { before = Open lower upper front ∷ g.before }) (find_gap low high cut es))
+abbrev pub same_gap : Gap → Gap → Bool
+same_gap g h = nat_eq g.lower h.lower && (nat_eq g.upper h.upper && nat_eq g.front h.front)
+
+-- where a gap stands in a timeline
+abbrev pub find_gap : {E : Type 0} → Gap → List (Entry E) → Option (Opening E)
+find_gap gap [] = None
+find_gap gap (Held c ∷ es) = option_map (λ (o : Opening _). record o { before = Held c ∷ o.before }) (find_gap gap es)
+find_gap gap (Open found ∷ es) =
+    cond (same_gap found gap) (Some (record { before = []; gap = found; behind = es }))
+    (option_map (λ (o : Opening _). record o { before = Open found ∷ o.before }) (find_gap gap es))
 
 module _ {V D F P : Type 0} (w : Server V D F P) (user : List ℕ) (f : F) where
   -- apply_reply; no list is read for what a client does
@@ -54,33 +56,33 @@ module _ {V D F P : Type 0} (w : Server V D F P) (user : List ℕ) (f : F) where
   with_reply (Some c) (Some since) after reply =
       cond (same_token c.token since) (Some (after_reply (Some since) c.front c.rooms c.account after reply)) (Some c)
 
-  abbrev pub page_into : RoomId → Gap Event → Page Event → Holding Event Key V → Holding Event Key V
-  page_into room gap page had = record {
+  abbrev pub page_into : RoomId → Opening Event → Page Event → Holding Event Key V → Holding Event Key V
+  page_into room o page had = record {
     joined = option_map (λ (p : ClientRoom Event Key × V).
-        (with_page (story w no_lists user f room).room gap.lower gap.front gap.before gap.behind page p.0.state, p.1)) had.joined;
+        (with_page (story w no_lists user f room).room o.gap o.before o.behind page p.0.state, p.1)) had.joined;
     invited = had.invited;
   }
 
   -- apply_page, judged at a front
-  abbrev pub after_page : ℕ → RoomId → Client V → Gap Event → Page Event → Client V
-  after_page front room c gap page = record {
+  abbrev pub after_page : ℕ → RoomId → Client V → Opening Event → Page Event → Client V
+  after_page front room c o page = record {
     token = c.token;
     front = max c.front front;
-    rooms = λ other. cond (same_room other room) (page_into other gap page (c.rooms other)) (c.rooms other);
+    rooms = λ other. cond (same_room other room) (page_into other o page (c.rooms other)) (c.rooms other);
     account = c.account;
   }
 
-  -- the open gap that a page was asked for
-  abbrev pub gap_of : PageAsk P → Holding Event Key V → Option (Gap Event)
-  gap_of ask had = option_and_then (λ (p : ClientRoom Event Key × V). find_gap (to_at ask.to) ask.from_at ask.from_cut p.0.timeline) had.joined
+  -- where the gap that a page was asked for stands open
+  abbrev pub opening_of : PageAsk P → Holding Event Key V → Option (Opening Event)
+  opening_of ask had = option_and_then (λ (p : ClientRoom Event Key × V). find_gap (asked_gap ask) p.0.timeline) had.joined
 
   -- a page of an open gap is applied; another is passed over
-  abbrev pub with_gap : ℕ → RoomId → Client V → Page Event → Option (Gap Event) → Client V
+  abbrev pub with_gap : ℕ → RoomId → Client V → Page Event → Option (Opening Event) → Client V
   with_gap front room c page None = c
-  with_gap front room c page (Some gap) = after_page front room c gap page
+  with_gap front room c page (Some o) = after_page front room c o page
 
   abbrev pub with_shown : ℕ → PageAsk P → Page Event → Option (Client V) → Option (Client V)
-  with_shown front ask page client = option_map (λ (c : Client V). with_gap front ask.room c page (gap_of ask (c.rooms ask.room))) client
+  with_shown front ask page client = option_map (λ (c : Client V). with_gap front ask.room c page (opening_of ask (c.rooms ask.room))) client
 
   -- the client after an answer to its device
   abbrev pub with_said : ℕ → Said V D F P → Option (Client V) → Option (Client V)

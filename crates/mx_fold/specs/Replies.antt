@@ -5,7 +5,7 @@ use Rattle.mx_ids.specs.declared.room_id.RoomId.{RoomId}
 use Rattle.mx_ids.specs.declared.sync_token.SyncToken.{SyncToken}
 use Rattle.mx_json.specs.declared.value.Json.{Json}
 use Rattle.mx_event.specs.declared.event.Event.{Event}
-use Rattle.mx_folding.specs.Parts.{Part, Page, page_of}
+use Rattle.mx_folding.specs.Parts.{Part, Page, Gap, gap_at, page_of}
 use Rattle.mx_folding.specs.Stories.{Sync, Told, told}
 use Rattle.mx_folding.specs.Visible.{is_visible}
 use Rattle.mx_view.specs.Left.{left_part}
@@ -53,6 +53,10 @@ abbrev pub to_at : Option SyncToken → ℕ
 to_at None = 0
 to_at (Some t) = t.e
 
+-- the gap that a page is asked for
+abbrev pub asked_gap : {P : Type 0} → PageAsk P → Gap
+asked_gap ask = gap_at (to_at ask.to) ask.from_at ask.from_cut
+
 -- the token isn't ahead of the fronts
 abbrev pub is_behind : Option SyncToken → SyncToken → Bool
 is_behind None fronts = true
@@ -80,7 +84,7 @@ module _ {V D F P : Type 0} (w : Server V D F P) (lists : Lists) (user : List �
   abbrev pub page_asked : PageAsk P → Page Event
   page_asked ask =
       let es : List Event = events_in lists ask.room in
-      page_of (room_of (w.page_sieve ask.filter ask.room) user es) es ask.limit ask.from_cut (fronts_of lists).e (to_at ask.to) ask.from_at
+      page_of (room_of (w.page_sieve ask.filter ask.room) user es) es ask.limit (fronts_of lists).e (asked_gap ask)
 
   -- an event of the room is visible
   abbrev pub sees_room : RoomId → Bool

@@ -3,7 +3,8 @@ use Rattle.std.specs.Prelude.{◌≡◌, ℕ, true, List, [], ◌∷◌, ◌++�
 use Rattle.mx_ids.specs.declared.sync_token.SyncToken.{SyncToken}
 use Rattle.mx_event.specs.declared.event.Event.{Event}
 use Rattle.mx_folding.specs.Clients.{Entry, Held, Open, ClientRoom}
-use Rattle.mx_folding.specs.Chains.{Client, new_client, Turn, Synced, Paged, Gap, after_turns}
+use Rattle.mx_folding.specs.Chains.{Client, new_client, Turn, Synced, Paged, Opening, after_turns}
+use Rattle.mx_folding.specs.Parts.{gap_at}
 use Rattle.mx_folding.specs.Stories.{Story}
 use Rattle.mx_view.specs.Rooms.{Key, story_by}
 use Rattle.mx_view.specs.Tokens.{tokens}
@@ -21,7 +22,7 @@ client_after user es turns = after_turns tokens (λ x. story_by said everything 
 abbrev pub entries : List (Entry Event) → List (ℕ × ℕ)
 entries [] = []
 entries (Held c ∷ es) = (c.id.at, c.id.at) ∷ entries es
-entries (Open lower upper front ∷ es) = (lower, upper) ∷ entries es
+entries (Open gap ∷ es) = (gap.lower, gap.upper) ∷ entries es
 
 abbrev pub timeline_of : Option (ClientRoom Event Key × ℕ) → List (ℕ × ℕ)
 timeline_of None = []
@@ -35,7 +36,7 @@ synced limit e = Synced (asks limit) (λ x. nobody) (token e 8)
 
 -- a page of three of the gap (0, 7]
 abbrev pub paged : Turn (Unit {0}) Event Key SyncToken
-paged = Paged 3 9 (λ x. Some (record { before = []; lower = 0; upper = 7; front = 8; behind = Held (message 8 alice) ∷ [] }))
+paged = Paged 3 9 (λ x. Some (record { before = []; gap = gap_at 0 7 8; behind = Held (message 8 alice) ∷ [] }))
 
 -- the first sync leaves a gap
 abbrev pub FirstSync : Type 0
@@ -57,10 +58,10 @@ NotBegun = timeline_after bob long_room [] ≡ []
 abbrev pub left_before : List Event
 left_before = joined_room ++ joins 8 bob ∷ []
 
-abbrev pub break_gap : Gap Event
+abbrev pub break_gap : Opening Event
 break_gap = record {
   before = map Held left_before;
-  lower = 8; upper = 13; front = 15;
+  gap = gap_at 8 13 15;
   behind = Held (joins 14 bob) ∷ Held (message 15 alice) ∷ [];
 }
 

@@ -3,7 +3,7 @@ use Rattle.std.specs.Prelude.{ℕ, Bool, true, false, List, map, Option, Some, N
 use Rattle.mx_ids.specs.declared.sync_token.SyncToken.{SyncToken}
 use Rattle.mx_event.specs.Shown.{position_of}
 use Rattle.mx_event.specs.declared.event.Event.{Event}
-use Rattle.mx_folding.specs.Parts.{Part, Page, page_of}
+use Rattle.mx_folding.specs.Parts.{Part, Page, page_of, gap_at}
 use Rattle.mx_folding.specs.Stories.{Rest, Sync, Told, Nothing, Anew, More, Invited, Left, told}
 use Rattle.mx_view.specs.Rooms.{Key, Sieve, room_by, story_by}
 use Rattle.mx_view.specs.Tokens.{tokens}
@@ -66,4 +66,4 @@ turned p = (p.more, p.end, places p.members, places p.sent)
 -- a backward page of (low, high] at the front e, from a token that was cut at g: whether something is left out, the position
 -- of `end`, the members and the events in rising order
 abbrev pub page : List ℕ → List Event → Sieve → ℕ → ℕ → ℕ → ℕ → ℕ → Bool × ℕ × List ℕ × List ℕ
-page user es f limit g e low high = turned (page_of (room_by said f user es) es limit g e low high)
+page user es f limit g e low high = turned (page_of (room_by said f user es) es limit e (gap_at low high g))

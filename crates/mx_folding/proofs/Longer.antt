@@ -9,7 +9,7 @@ use Rattle.mx_window.proofs.Each.{AllByRecursion-weaker, AllByRecursion-filter, 
 use Rattle.mx_window.proofs.Intervals.{between-inner, between-within}
 use Rattle.mx_window.proofs.Lasts.{last_of-same}
 use Rattle.mx_folding.specs.Rooms.{Room, key_is, is_state, is_kept, sets_same}
-use Rattle.mx_folding.specs.Sections.{sendable, break_at, section, cut, is_limited, chunk}
+use Rattle.mx_folding.specs.Sections.{sendable, break_at, section, cut, is_limited, chunk, window}
 use Rattle.mx_folding.specs.Redactions.{is_named, shown}
 use Rattle.mx_folding.specs.Parts.{is_sender, state_list, state_part}
 use Rattle.mx_folding.proofs.Cuts.{sendable_within}
@@ -61,7 +61,7 @@ longer_state : {E K : Type 0} (r : Room E K) (sends : ℕ → E → Bool) (staye
 longer_state r sends stayed es later p t up h = ap (λ l. filter (is_state r) (current (sets_same r) l)) (longer r.at 0 p t es later up h)
 
 longer_section : {E K : Type 0} (r : Room E K) (sends : ℕ → E → Bool) (stayed : ℕ → ℕ → Bool) (es later : List E) (after : Bool) (limit f s t : ℕ) → s ≤ t → t ≤ f → AllByRecursion (λ e. f < r.at e) later
-    → AllByRecursion (λ e. sends f e ≡ r.sends f e) (between r.at 0 f es) → section (judged_by r sends stayed) (es ++ later) after limit f s t ≡ section r es after limit f s t
+    → AllByRecursion (λ e. sends f e ≡ r.sends f e) (between r.at 0 f es) → section (judged_by r sends stayed) (es ++ later) f (window after limit s t) ≡ section r es f (window after limit s t)
 longer_section r sends stayed es later after limit f s t up in' h same =
     ap (λ low. last limit (sendable (judged_by r sends stayed) (es ++ later) f (cond after s low) t)) (longer_break r sends stayed es later f s t in' h same)
     ∙ ap (last limit) (longer_sendable r sends stayed es later f (cond after s (break_at r es f s t)) t in' h same)
@@ -70,28 +70,31 @@ upto_cut : (after : Bool) (q t f : ℕ) → q ≤ t → t ≤ f → cond after t
 upto_cut true q t f h k = k
 upto_cut false q t f h k = omega arith
 
-cut_upto : {E K : Type 0} (r : Room E K) (es : List E) (after : Bool) (limit f s t : ℕ) → cut r es after limit f s t ≤ t
+cut_upto : {E K : Type 0} (r : Room E K) (es : List E) (after : Bool) (limit f s t : ℕ) → cut r es f (window after limit s t) ≤ t
 cut_upto r es after limit f s t =
-    before_first-high r.at t (section r es after limit f s t)
+    before_first-high r.at t (section r es f (window after limit s t))
     (AllByRecursion-drop (λ e. r.at e ≤ t) (length (sendable r es f (cond after s (break_at r es f s t)) t) - limit) (sendable r es f (cond after s (break_at r es f s t)) t) (sendable_within r es f (cond after s (break_at r es f s t)) t))
 
 pub same_part : {E K : Type 0} → SamePart E K
 same_part {E = E} {K = K} r sends stayed es later after limit f s t pick up in' h same =
     let r' : Room E K = judged_by r sends stayed in
     let long : List E = es ++ later in
-    let q : ℕ = cut r es after limit f s t in
-    let sec : section r' long after limit f s t ≡ section r es after limit f s t = longer_section r sends stayed es later after limit f s t up in' h same in
+    let q : ℕ = cut r es f (window after limit s t) in
+    let sec : section r' long f (window after limit s t) ≡ section r es f (window after limit s t) = longer_section r sends stayed es later after limit f s t up in' h same in
     let all : sendable r' long f s t ≡ sendable r es f s t = longer_sendable r sends stayed es later f s t in' h same in
-    let state : state_part r' long (pick (section r' long after limit f s t)) (cond after t (before_first r.at t (section r' long after limit f s t))) ≡ state_part r es (pick (section r es after limit f s t)) (cond after t q) =
+    let state : state_part r' long (pick (section r' long f (window after limit s t))) (cond after t (before_first r.at t (section r' long f (window after limit s t)))) ≡ state_part r es (pick (section r es f (window after limit s t))) (cond after t q) =
     ap (λ x. state_part r' long (pick x) (cond after t (before_first r.at t x))) sec
-    ∙ ap (λ l. filter (pick (section r es after limit f s t)) (filter (is_kept r) l)) (longer_state r sends stayed es later (cond after t q) f (upto_cut after q t f (cut_upto r es after limit f s t) in') h) in
-    let more : is_limited r' long after limit f s t ≡ is_limited r es after limit f s t = ap₂ (λ (a b : List E). nat_lt (length a) (length b)) sec all in
-    let shown_state = longer_shown r sends stayed es later f (state_part r' long (pick (section r' long after limit f s t)) (cond after t (before_first r.at t (section r' long after limit f s t)))) h ∙ ap (map (shown r es f)) state in
-    let shown_sent = longer_shown r sends stayed es later f (section r' long after limit f s t) h ∙ ap (map (shown r es f)) sec in
+    ∙ ap (λ l. filter (pick (section r es f (window after limit s t))) (filter (is_kept r) l)) (longer_state r sends stayed es later (cond after t q) f (upto_cut after q t f (cut_upto r es after limit f s t) in') h) in
+    let more : is_limited r' long f (window after limit s t) ≡ is_limited r es f (window after limit s t) = ap₂ (λ (a b : List E). nat_lt (length a) (length b)) sec all in
+    let shown_state = longer_shown r sends stayed es later f (state_part r' long (pick (section r' long f (window after limit s t))) (cond after t (before_first r.at t (section r' long f (window after limit s t))))) h ∙ ap (map (shown r es f)) state in
+    let shown_sent = longer_shown r sends stayed es later f (section r' long f (window after limit s t)) h ∙ ap (map (shown r es f)) sec in
     λ i. record { limited = more i; cut = before_first r.at t (sec i); state = shown_state i; sent = shown_sent i }
 
 pub same_page : {E K : Type 0} → SamePage E K
-same_page {E = E} {K = K} r sends stayed es later limit g e low high up le in' h same =
+same_page {E = E} {K = K} r sends stayed es later limit e gap up le in' h same =
+    let low : ℕ = gap.lower in
+    let high : ℕ = gap.upper in
+    let g : ℕ = gap.front in
     let r' : Room E K = judged_by r sends stayed in
     let long : List E = es ++ later in
     let all : sendable r' long e low high ≡ sendable r es e low high = longer_sendable r sends stayed es later e low high in' h same in

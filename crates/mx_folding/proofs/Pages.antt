@@ -8,7 +8,7 @@ use Rattle.mx_window.proofs.Lasts.{last_of-some}
 use Rattle.mx_folding.specs.Rooms.{Room, IsRoom, state_at, key_is, has}
 use Rattle.mx_folding.specs.Sections.{chunk}
 use Rattle.mx_folding.specs.Redactions.{is_named, is_redacted, shown, redact_by}
-use Rattle.mx_folding.specs.Parts.{is_sender, state_list, Page, page_of}
+use Rattle.mx_folding.specs.Parts.{is_sender, state_list, Page, page_of, gap_at}
 use Rattle.mx_folding.specs.Clients.{Entry, Held, Open, held, put_new, gap_if, redact_entry}
 use Rattle.mx_folding.specs.Agreement.{pictured, TimelineAgrees, is_owed, IsCopy, IsDue}
 use Rattle.mx_folding.proofs.Redacting.{redact_by-at}
@@ -43,14 +43,17 @@ name_order false false false = refl
 
 -- a room after a page
 pub folds_page : {E K : Type 0} → FoldsPage E K
-folds_page {E = E} {K = K} r es is limit b t front front' e lower upper g before behind state stays up later higher agrees =
+folds_page {E = E} {K = K} r es is limit b t front front' e gap before behind state stays up later higher agrees =
+    let lower : ℕ = gap.lower in
+    let upper : ℕ = gap.upper in
+    let g : ℕ = gap.front in
     let xs : List E = chunk r es limit e lower upper in
-    let page : Page E = page_of r es limit g e lower upper in
+    let page : Page E = page_of r es limit e (gap_at lower upper g) in
     let mid : ℕ = before_first r.at upper xs in
     let sent : List E = map (shown r es e) xs in
     let members : List E = page.members in
-    let old : List (Entry E) = before ++ Open lower upper g ∷ behind in
-    let tl : List (Entry E) = before ++ gap_if page.more lower mid g ++ map Held sent ++ behind in
+    let old : List (Entry E) = before ++ Open (gap_at lower upper g) ∷ behind in
+    let tl : List (Entry E) = before ++ gap_if page.more (gap_at lower mid g) ++ map Held sent ++ behind in
     let named : ℕ → Bool = is_named r (held old) in
     let named' : ℕ → Bool = is_named r (held (map (redact_entry r sent) tl)) in
     let around = Rises-around r.at t 0 t lower upper g before behind agrees.timeline.order in
@@ -67,7 +70,7 @@ folds_page {E = E} {K = K} r es is limit b t front front' e lower upper g before
     (λ n. ap (map r.at) (sym (sendable-stays r es t e lower mid stays up (omega arith)) ∙ facts.none n)) agrees.timeline in
     let copies : held (map (redact_entry r sent) tl) ≡ map (redact_by r sent) (held before ++ sent ++ held behind) =
     held-redact r sent tl ∙ ap (map (redact_by r sent)) (held_page before behind page.more lower mid g sent) in
-    let olds : held old ≡ held before ++ held behind = held-append before (Open lower upper g ∷ behind) in
+    let olds : held old ≡ held before ++ held behind = held-append before (Open (gap_at lower upper g) ∷ behind) in
     let joined : (p : ℕ) → named' p ≡ (named p || is_named r sent p) = λ p.
     ap (λ l. is_named r l p) copies ∙ is_named-redact r es sent (held before ++ sent ++ held behind) p is
     ∙ is_named-append r (held before ++ sent) (held behind) p ∙ ap (λ x. x || is_named r (held behind) p) (is_named-append r (held before) sent p)

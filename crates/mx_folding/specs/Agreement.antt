@@ -15,13 +15,13 @@ pictured r es t low high = map r.at (sendable r es t low high)
 abbrev pub filled : {C : Type 0} → (C → ℕ) → (ℕ → ℕ → List ℕ) → List (Entry C) → List ℕ
 filled at picture [] = []
 filled at picture (Held c ∷ es) = at c ∷ filled at picture es
-filled at picture (Open lower upper front ∷ es) = picture lower upper ++ filled at picture es
+filled at picture (Open gap ∷ es) = picture gap.lower gap.upper ++ filled at picture es
 
 -- copies and gaps stand in order, above low and up to high, no two gaps overlap, and each was cut at a front up to t
 abbrev pub Rises : {C : Type 0} → (C → ℕ) → ℕ → ℕ → ℕ → List (Entry C) → Type 0
 Rises at t low high [] = low ≤ high
 Rises at t low high (Held c ∷ es) = (low < at c) × Rises at t (at c) high es
-Rises at t low high (Open lower upper front ∷ es) = (low ≤ lower) × (lower ≤ upper) × (front ≤ t) × Rises at t upper high es
+Rises at t low high (Open gap ∷ es) = (low ≤ gap.lower) × (gap.lower ≤ gap.upper) × (gap.front ≤ t) × Rises at t gap.upper high es
 
 -- with each open gap filled, the timeline is the picture's
 pub record TimelineAgrees {E K : Type 0} (r : Room E K) (es : List E) (t : ℕ) (timeline : List (Entry E)) : Type 0 where
@@ -35,7 +35,7 @@ pub record StateAgrees {E K : Type 0} (r : Room E K) (es : List E) (t : ℕ) (ow
 
 abbrev pub is_gap_before : {C : Type 0} → ℕ → Entry C → Bool
 is_gap_before p (Held c) = false
-is_gap_before p (Open lower upper front) = nat_lt front p
+is_gap_before p (Open gap) = nat_lt gap.front p
 
 -- which events of the state a client must hold: all, but with lazy members of the member events only the user's own,
 -- those of senders in the timeline, those after b where the user stayed joined from b to t, and those after the

@@ -2,8 +2,9 @@
 use Rattle.std.proofs.Common.{◌≡◌, ℕ, ◌≤◌, ◌==◌, Bool, true, false, not, nat_le, nat_lt, [], ◌∷◌, None, refl, arith}
 use Rattle.std.proofs.lemmas.Bool.{false≢true}
 use Rattle.mx_window.proofs.Each.{AllByRecursion-every}
+use Rattle.mx_folding.specs.Sections.{window}
 use Rattle.mx_folding.specs.Rooms.{Room, IsRoom, StaysSent}
-use Rattle.mx_folding.specs.Parts.{part_of, picks, picks_new, is_omitted}
+use Rattle.mx_folding.specs.Parts.{part_of, picks, picks_new, is_omitted, gap_at}
 use Rattle.mx_folding.specs.Clients.{Held, Open, ClientRoom, empty_room, with_part, with_page}
 use Rattle.mx_folding.specs.Agreement.{RoomAgrees}
 use Rattle.mx_folding.proofs.Replies.{folds_new, folds_reply}
@@ -22,7 +23,7 @@ stays r sent s t up = AllByRecursion-every _ (λ e. refl) _
 
 -- what a client holds after the first reply
 abbrev first : Room Item Bool → Bool → ℕ → ℕ → ClientRoom Item Bool
-first r after limit t = with_part r after 0 t (part_of r events after limit t 0 t (picks_new r (λ k. false))) (empty_room Item Bool)
+first r after limit t = with_part r after 0 t (part_of r events t (window after limit 0 t) (picks_new r (λ k. false))) (empty_room Item Bool)
 
 first_agrees : (r : Room Item Bool) → IsRoom r events → (after : Bool) (limit t b : ℕ) → (r.stayed b t ≡ true → t ≤ b) → RoomAgrees r events b t t (first r after limit t)
 first_agrees r is after limit t b base = folds_new r events is after limit t t b (λ k. false) (omega arith) base
@@ -47,7 +48,7 @@ needs_front law =
     let r : Room Item Bool = record (room_of (λ p. true) (λ p. not (p == 2))) { lazy = true; sender = λ e. e.place == 2 } in
     let is = is_room r (λ p. not (p == 2)) (λ p. p == 2) (λ b s t h i e. e) in
     let agrees = first_agrees r is true 1 3 3 (λ h. absurd (false≢true h)) in
-    let old = (law r events is 10 3 3 3 3 3 0 2 3 [] (Held naming ∷ []) (first r true 1 3).state (stays r (λ e. true) 3) (omega arith) (omega arith) (omega arith) agrees).state.right true (at 1) refl in
+    let old = (law r events is 10 3 3 3 3 3 (gap_at 0 2 3) [] (Held naming ∷ []) (first r true 1 3).state (stays r (λ e. true) 3) (omega arith) (omega arith) (omega arith) agrees).state.right true (at 1) refl in
     absurd cc
 
 -- the same with 3 held
@@ -57,8 +58,8 @@ needs_held law =
     let is = is_room r (λ p. not (p == 2)) (λ p. p == 2) (λ b s t h i e. e) in
     let agrees = folds_reply r events is false 10 2 2 3 2 3 2 false (λ k. false) (first r false 0 2) (stays r (λ e. true) 2) (omega arith) (omega arith) (omega arith) (omega arith)
     (first_agrees r is false 0 2 2 (λ h. absurd (false≢true h))) in
-    let old = (law r events is 10 2 3 3 3 3 0 2 2 [] (Held naming ∷ [])
-    (with_part r false 2 3 (part_of r events false 10 3 2 3 (picks r false 2 2 2 (λ k. false))) (first r false 0 2)).state (stays r (λ e. true) 3) (omega arith) (omega arith) (omega arith) agrees).state.right true (at 1) refl in
+    let old = (law r events is 10 2 3 3 3 3 (gap_at 0 2 2) [] (Held naming ∷ [])
+    (with_part r false 2 3 (part_of r events 3 (window false 10 2 3) (picks r false 2 2 2 (λ k. false))) (first r false 0 2)).state (stays r (λ e. true) 3) (omega arith) (omega arith) (omega arith) agrees).state.right true (at 1) refl in
     absurd cc
 
 -- member 1 isn't held, since the user wasn't joined, and its user sends 2
@@ -84,8 +85,8 @@ pub needs_cut_in_past : FoldsPageBy Item Bool InPast with_page at_cut → ⊥
 needs_cut_in_past law =
     let r : Room Item Bool = record (room_of (λ p. p == 1) (λ p. p == 2)) { lazy = true; sender = λ e. e.place == 1 } in
     let is = is_room r (λ p. p == 2) (λ p. p == 1) (λ b s t h i e. e) in
-    let agrees : InPast r events 1 1 1 (record { state = λ k. None; timeline = Open 0 1 2 ∷ [] }) = record { whole = refl; gaps = (omega arith, tt); state = record { right = λ k c h. absurd cc; enough = λ k v h o. absurd cc }; held_copies = tt; state_copies = λ k c h. absurd cc } in
-    let new = (law r events is 10 1 1 1 1 1 0 1 2 [] [] (λ k. None) (stays r (λ e. e.place == 1) 1) (omega arith) (omega arith) (omega arith) agrees).state.right true (at 2) refl in
+    let agrees : InPast r events 1 1 1 (record { state = λ k. None; timeline = Open (gap_at 0 1 2) ∷ [] }) = record { whole = refl; gaps = (omega arith, tt); state = record { right = λ k c h. absurd cc; enough = λ k v h o. absurd cc }; held_copies = tt; state_copies = λ k c h. absurd cc } in
+    let new = (law r events is 10 1 1 1 1 1 (gap_at 0 1 2) [] [] (λ k. None) (stays r (λ e. e.place == 1) 1) (omega arith) (omega arith) (omega arith) agrees).state.right true (at 2) refl in
     absurd cc
 
 -- the gap goes on after the token: what comes then is in it and behind it
@@ -93,6 +94,6 @@ pub needs_in_past : FoldsReplyBy Item Bool CutInPast is_omitted → ⊥
 needs_in_past law =
     let r : Room Item Bool = record (room_of (λ p. true) (λ p. false)) { sends = λ front e. nat_le e.place front } in
     let is = is_room r (λ p. false) (λ p. false) (λ b s t h i e. e) in
-    let agrees : CutInPast r events 0 0 0 (record { state = λ k. None; timeline = Open 0 2 0 ∷ [] }) = record { whole = refl; gaps = (omega arith, tt); state = record { right = λ k c h. absurd cc; enough = λ k v h o. absurd cc }; held_copies = tt; state_copies = λ k c h. absurd cc } in
-    let twice = (law r events is false 10 0 0 2 0 2 0 false (λ k. false) (record { state = λ k. None; timeline = Open 0 2 0 ∷ [] }) (λ t h. tt) (omega arith) (omega arith) (omega arith) (omega arith) agrees).whole in
+    let agrees : CutInPast r events 0 0 0 (record { state = λ k. None; timeline = Open (gap_at 0 2 0) ∷ [] }) = record { whole = refl; gaps = (omega arith, tt); state = record { right = λ k c h. absurd cc; enough = λ k v h o. absurd cc }; held_copies = tt; state_copies = λ k c h. absurd cc } in
+    let twice = (law r events is false 10 0 0 2 0 2 0 false (λ k. false) (record { state = λ k. None; timeline = Open (gap_at 0 2 0) ∷ [] }) (λ t h. tt) (omega arith) (omega arith) (omega arith) (omega arith) agrees).whole in
     absurd cc

@@ -2,12 +2,13 @@
 use Rattle.std.proofs.Common.{◌≡◌, ℕ, ◌==◌, Bool, true, false, nat_le, List, [], ◌∷◌, Option, Some, None, refl, ap, sym, subst, arith, leb-true, cond, not, ◌↔◌}
 use Rattle.std.proofs.lemmas.Bool.{false≢true}
 use Rattle.mx_window.proofs.Each.{AllByRecursion-every}
+use Rattle.mx_folding.specs.Sections.{window}
 use Rattle.mx_folding.specs.Rooms.{Room, state_at}
 use Rattle.mx_folding.specs.Visible.{Join}
 use Rattle.mx_folding.specs.Parts.{part_of, picks_new}
 use Rattle.mx_folding.specs.Clients.{ClientRoom, empty_room, with_part}
 use Rattle.mx_folding.specs.Agreement.{RoomAgrees, is_owed}
-use Rattle.mx_folding.specs.Stories.{Tokens, IsTokens, Rest, Story, In, Holds}
+use Rattle.mx_folding.specs.Stories.{Tokens, IsTokens, Rest, Story, In, StandingAgrees}
 use Rattle.mx_folding.specs.Chains.{Turn, Synced}
 use Rattle.mx_folding_needs.specs.Premises.{Asked, Item, If, OrderIf, KeysIf, RedactionIf, JoinedIf, RestIf, ChainsFoldIf}
 
@@ -98,12 +99,12 @@ view_or view None = view
 view_or view (Some p) = p.1
 
 pub held_room : {E K V D T : Type 0} (k : Tokens T) (g : Story E K V D T) (b : ℕ) (i : T) (front : ℕ) (room : ClientRoom E K) (view : V) (invited : Option (List ℕ))
-    → Holds k g b i front In (record { joined = Some (room, view); invited = invited }) → RoomAgrees g.room g.events b (k.event i) front room
+    → StandingAgrees k g b i front In (record { joined = Some (room, view); invited = invited }) → RoomAgrees g.room g.events b (k.event i) front room
 held_room k g b i front room view invited h = subst (λ r. RoomAgrees g.room g.events b (k.event i) front r) (sym (ap (room_or room) h.2)) h.3
 
 -- what the client holds at 3 that synced at 1, before the user joined, and then at 3
 abbrev pub at_3 : Room Item Bool → ClientRoom Item Bool
-at_3 r = with_part r false 0 3 (part_of r events false 10 3 0 3 (picks_new r (λ k. false))) (empty_room Item Bool)
+at_3 r = with_part r false 0 3 (part_of r events 3 (window false 10 0 3) (picks_new r (λ k. false))) (empty_room Item Bool)
 
 abbrev Law : Asked → Type 0
 Law a = ChainsFoldIf a (Unit {0}) Item Bool ℕ ℕ ℕ

@@ -2,6 +2,7 @@
 use Rattle.std.proofs.Common.{◌≡◌, ℕ, zero, suc, ◌≤◌, ◌==◌, ◌-◌, true, false, cond, nat_le, [], ◌∷◌, Some, None, refl, ap, sym, ◌∙◌, arith, le-leb, Bool}
 use Rattle.std.proofs.lemmas.Bool.{true≢false, false≢true}
 use Rattle.mx_window.proofs.Each.{AllByRecursion-every}
+use Rattle.mx_folding.specs.Parts.{gap_at}
 use Rattle.mx_folding.specs.Rooms.{Room}
 use Rattle.mx_folding.specs.Visible.{Join}
 use Rattle.mx_folding.specs.Clients.{Held}
@@ -50,7 +51,7 @@ needs_past law =
     let r : Room Item Bool = record all_sent { sends = λ front e. nat_le 1 front } in
     let j = joins all_asked 1 r rest_of (λ e. true) in
     let h = law tokens tokens_rise (λ x. story 1 r rest_of) (λ x. record { order = in_order _ r; keys = by_key _ r (λ e. key_by (λ p. true) e.place); redaction = reds _ r (key_by (λ p. true)) (λ p. false); joined = record { stayed_less = j.stayed_less; stays = λ s h t i. AllByRecursion-every _ (λ e. le-leb 1 t (omega (arith, i, after_join r s h)) ∙ sym (le-leb 1 s (after_join r s h))) _; kinds = j.kinds; stayed = j.stayed }; rest = rests _ _ _ })
-    (synced 1 2 ∷ Paged 10 0 (λ x. Some (record { before = []; lower = 0; upper = 1; front = 2; behind = Held (at 2) ∷ [] })) ∷ []) (tt, ((tt, λ x. (_, _, refl, refl)), tt)) tt in
+    (synced 1 2 ∷ Paged 10 0 (λ x. Some (record { before = []; gap = gap_at 0 1 2; behind = Held (at 2) ∷ [] })) ∷ []) (tt, ((tt, λ x. (_, _, refl, refl)), tt)) tt in
     let other = (held_room tokens (story 1 r rest_of) _ _ _ _ _ _ h).timeline.whole in
     absurd cc
 
@@ -58,7 +59,7 @@ needs_past law =
 pub needs_gaps : FailsWith (record all_asked { gaps = false })
 needs_gaps law =
     let h = law tokens tokens_rise (λ x. story 1 all_sent rest_of) (λ x. is_story _ _ _ (rests _ _ _))
-    (synced 10 2 ∷ Paged 10 2 (λ x. Some (record { before = []; lower = 0; upper = 0; front = 0; behind = [] })) ∷ []) (tt, ((omega arith, tt), tt)) tt in
+    (synced 10 2 ∷ Paged 10 2 (λ x. Some (record { before = []; gap = gap_at 0 0 0; behind = [] })) ∷ []) (tt, ((omega arith, tt), tt)) tt in
     let other = (held_room tokens (story 1 all_sent rest_of) _ _ _ _ _ _ h).timeline.whole in
     absurd cc
 

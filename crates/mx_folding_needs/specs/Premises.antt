@@ -59,32 +59,32 @@ pub record JoinedIf {E K V D T : Type 0} (a : Asked) (g : Story E K V D T) : Typ
   pub kinds : If a.kinds (AllByRecursion (λ e. g.is_own e ≡ true → is_some (g.membership e) ≡ true) g.events)
   pub stayed : If a.stayed ((b s : ℕ) → b ≤ s → g.room.stayed b s ≡ true → joined_in g s ≡ true)
 
-pub record RestIf {V D T : Type 0} (a : Asked) (k : Tokens T) (joined : ℕ → Bool) (rest : Rest V D T) : Type 0 where
-  pub folds : If a.folds ((i j : T) → k.before i j ≡ true → joined (k.event i) ≡ true → joined (k.event j) ≡ true
+pub record RestIf {V D T : Type 0} (a : Asked) (ts : Tokens T) (joined : ℕ → Bool) (rest : Rest V D T) : Type 0 where
+  pub folds : If a.folds ((i j : T) → ts.before i j ≡ true → joined (ts.event i) ≡ true → joined (ts.event j) ≡ true
       → rest.changed (rest.view i) (rest.delta i j) ≡ rest.view j)
-  pub still : If a.still ((i j : T) → k.before i j ≡ true → joined (k.event i) ≡ true → joined (k.event j) ≡ true
+  pub still : If a.still ((i j : T) → ts.before i j ≡ true → joined (ts.event i) ≡ true → joined (ts.event j) ≡ true
       → rest.differs i j ≡ false → rest.view j ≡ rest.view i)
 
 -- `IsStory`, as far as it is asked
-pub record StoryIf {E K V D T : Type 0} (a : Asked) (k : Tokens T) (g : Story E K V D T) : Type 0 where
+pub record StoryIf {E K V D T : Type 0} (a : Asked) (ts : Tokens T) (g : Story E K V D T) : Type 0 where
   pub order : OrderIf a g.room g.events
   pub keys : KeysIf a g.room
   pub redaction : RedactionIf a g.room
   pub joined : JoinedIf a g
-  pub rest : RestIf a k (joined_in g) g.rest
+  pub rest : RestIf a ts (joined_in g) g.rest
 
 abbrev pub TurnIf : {X E K V T : Type 0} → Asked → Tokens T → Client X E K V T → Turn X E K T → Type 0
-TurnIf a k c (Synced ask heroes j) = If a.next (IsNext k c.token j)
-TurnIf {X = X} a k c (Paged limit e gaps) = If a.past (IsPast k c.token e) × If a.gaps ((x : X) → IsOpen (gaps x) (c.rooms x))
+TurnIf a ts c (Synced ask heroes j) = If a.next (IsNext ts c.token j)
+TurnIf {X = X} a ts c (Paged limit e gaps) = If a.past (IsPast ts c.token e) × If a.gaps ((x : X) → IsOpen (gaps x) (c.rooms x))
 
 abbrev pub TurnsIf : {X E K V D T : Type 0} → Asked → Tokens T → (X → Story E K V D T) → Client X E K V T → List (Turn X E K T) → Type 0
-TurnsIf a k w c [] = ⊤
-TurnsIf a k w c (turn ∷ turns) = TurnIf a k c turn × TurnsIf a k w (after_turn k w c turn) turns
+TurnsIf a ts w c [] = ⊤
+TurnsIf a ts w c (turn ∷ turns) = TurnIf a ts c turn × TurnsIf a ts w (after_turn ts w c turn) turns
 
 -- `ChainsFold`, with the premises that are asked
 abbrev pub ChainsFoldIf : Asked → Type 0 → Type 0 → Type 0 → Type 0 → Type 0 → Type 0 → Type 0
-ChainsFoldIf a X E K V D T = (k : Tokens T) → If a.rises (IsTokens k) → (w : X → Story E K V D T) → ((x : X) → StoryIf a k (w x))
-    → (turns : List (Turn X E K T)) → TurnsIf a k w (new_client X E K V T) turns → Agrees k w (after_turns k w (new_client X E K V T) turns)
+ChainsFoldIf a X E K V D T = (ts : Tokens T) → If a.rises (IsTokens ts) → (w : X → Story E K V D T) → ((x : X) → StoryIf a ts (w x))
+    → (turns : List (Turn X E K T)) → TurnsIf a ts w (new_client X E K V T) turns → Agrees ts w (after_turns ts w (new_client X E K V T) turns)
 
 -- with all premises it is the folding law
 abbrev pub AllAsked : Type 0 → Type 0 → Type 0 → Type 0 → Type 0 → Type 0 → Type 0

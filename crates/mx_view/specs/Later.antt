@@ -3,7 +3,7 @@ use Rattle.std.specs.Prelude.{◌≡◌, ℕ, ◌<◌, ◌≤◌, Bool, List, �
 use Rattle.std.specs.List.{AllByRecursion}
 use Rattle.mx_ids.specs.declared.sync_token.SyncToken.{SyncToken}
 use Rattle.mx_event.specs.declared.event.Event.{Event}
-use Rattle.mx_folding.specs.Parts.{page_of}
+use Rattle.mx_folding.specs.Parts.{Gap, page_of}
 use Rattle.mx_folding.specs.Stories.{Rest, Sync, told, IsNext, IsBase}
 use Rattle.mx_view.specs.Rooms.{Key, Sieve, room_of, story_of}
 use Rattle.mx_view.specs.Tokens.{tokens}
@@ -20,8 +20,8 @@ SameTold V D = (f : Sieve) (picked : Bool) (user : List ℕ) (es later : List Ev
     → IsNext tokens since j → IsBase tokens b since j → AllByRecursion (λ (e : Event). j.e < e.id.at) later → SameRest long short since j
     → told tokens (story_of f picked user (es ++ later) long) ask heroes b since j ≡ told tokens (story_of f picked user es short) ask heroes b since j
 
--- So is a page at a front e, over a list that goes on with events after e.
+-- So is a page of a gap at a front e, over a list that goes on with events after e.
 abbrev pub SamePaged : Type 0
-SamePaged = (f : Sieve) (user : List ℕ) (es later : List Event) (limit g e low high : ℕ) → g ≤ e → low ≤ high → high ≤ e
+SamePaged = (f : Sieve) (user : List ℕ) (es later : List Event) (limit e : ℕ) (gap : Gap) → gap.front ≤ e → gap.lower ≤ gap.upper → gap.upper ≤ e
     → AllByRecursion (λ (d : Event). e < d.id.at) later
-    → page_of (room_of f user (es ++ later)) (es ++ later) limit g e low high ≡ page_of (room_of f user es) es limit g e low high
+    → page_of (room_of f user (es ++ later)) (es ++ later) limit e gap ≡ page_of (room_of f user es) es limit e gap

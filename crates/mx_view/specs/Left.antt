@@ -6,6 +6,7 @@ use Rattle.mx_ids.specs.declared.sync_token.SyncToken.{SyncToken}
 use Rattle.mx_window.specs.Lasts.{last_of}
 use Rattle.mx_event.specs.Shown.{first_of}
 use Rattle.mx_event.specs.declared.event.Event.{Event}
+use Rattle.mx_folding.specs.Sections.{window}
 use Rattle.mx_folding.specs.Parts.{Part, part_of, picks, picks_new}
 use Rattle.mx_folding.specs.Rooms.{Room}
 use Rattle.mx_folding.specs.Stories.{Sync, position}
@@ -33,7 +34,7 @@ pick_in r ask b s fresh sent e = cond fresh (picks_new r (λ k. false) sent e) (
 abbrev pub left_window : Room Event Key → List Event → Sync → ℕ → ℕ → ℕ → Bool → Option Event → Part Event
 left_window r es ask b front s fresh None = bare_part front
 left_window r es ask b front s fresh (Some l) =
-    cond (nat_lt s l.id.at) (part_of r es ask.after ask.limit front (cond fresh 0 s) l.id.at (pick_in r ask b s fresh)) (bare_part front)
+    cond (nat_lt s l.id.at) (part_of r es front (window ask.after ask.limit (cond fresh 0 s) l.id.at) (pick_in r ask b s fresh)) (bare_part front)
 
 -- what is sent of a left room, over its list up to the front
 abbrev pub left_of : Room Event Key → Viewer Event → List Event → Sync → ℕ → Option SyncToken → ℕ → Part Event
