@@ -2,3 +2,4 @@ pub mod Fields
 pub mod Judging
 pub mod Filters
 pub mod Passes
+pub mod Sieves

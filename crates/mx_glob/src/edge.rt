@@ -3,7 +3,8 @@ ghost use Rattle.std.specs.Prelude.{◌≡◌};
 ghost use Rattle.mx_glob.specs.Globs.{accepts, is_edge, is_word, next_char, place_of};
 ghost use Rattle.std.specs.Str.{chars};
 
-use crate::place::{Place, split_first};
+use crate::place::Place;
+use mx_ids::split_first;
 
 /// Where a stretch of a text may begin or end.
 #[derive(Clone, Copy, Debug, PartialEq, Eq)]

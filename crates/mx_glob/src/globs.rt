@@ -5,8 +5,9 @@ ghost use Rattle.mx_glob.specs.Globs.{glob, glob_in_words, place_of, spans};
 ghost use Rattle.mx_glob.specs.Walks.{found, tried};
 
 use crate::edge::Edge;
-use crate::place::{Place, after_star, past, split_first};
+use crate::place::{Place, after_star, past};
 use crate::wildcards::Same;
+use mx_ids::split_first;
 
 /// Whether the pattern fits the whole text: `*` stands for any sequence of characters. Takes no memory. The time is at
 /// most the product of the two lengths.

@@ -1,10 +1,11 @@
 //! The places of a text.
-ghost use Rattle.std.specs.Prelude.{◌≡◌, ◌<◌, ◌≤◌, ◌∷◌, [], length, Some, MatchOption, IfSome, option_map};
+ghost use Rattle.std.specs.Prelude.{◌≡◌, ◌<◌, length, IfSome, option_map};
 ghost use Rattle.std.specs.Str.{chars};
 ghost use Rattle.mx_glob.specs.Globs.{place_of, step};
 ghost use Rattle.mx_glob.specs.Walks.{after_star, past};
 
 use crate::wildcards::Same;
+use mx_ids::split_first;
 
 /// A place of a text: before its first character, between two, or behind the last.
 #[derive(Clone, Copy)]
@@ -13,17 +14,6 @@ pub(crate) struct Place<'a> {
     pub(crate) before: Option<char>,
     /// The text behind it.
     pub(crate) behind: &'a str,
-}
-
-/// The first character of a text, and the text behind it; `None` where the text is empty.
-pub(crate) fn split_first(text: &str) -> Option<(char, &str)>
-    ensures { MatchOption result (chars text.now ≡ []) (λ p. (chars text.now ≡ p.0 ∷ chars p.1.now) × (length p.1.now < length text.now)) }
-{
-    let mut rest = text.chars();
-    match rest.next() {
-        Some(first) => Some((first, rest.as_str())),
-        None => None,
-    }
 }
 
 /// What stands behind the first `*` of a pattern, or `None` where it has none.

@@ -4,8 +4,8 @@ use Rattle.std.proofs.Common.{◌≡◌, String, ℕ, ◌≤◌, ◌⊎◌, inl,
 use Rattle.mx_ids.specs.declared.users.Users.{Users}
 use Rattle.mx_serve.specs.declared.connection.End.{End}
 use Rattle.mx_serve.specs.declared.connection.End.TheVariants as end
-use Rattle.mx_serve.specs.declared.run.Status.{Status}
-use Rattle.mx_serve.specs.declared.run.Status.TheVariants as status
+use Rattle.mx_serve.specs.declared.session.Status.{Status}
+use Rattle.mx_serve.specs.declared.session.Status.TheVariants as status
 use Rattle.mx_serve.specs.Runs.{World, HasRisen, IsCause, Ran, RanOver, number_of, status_of, users_limit}
 use Rattle.mx_serve.specs.UsersFile.{users_of}
 

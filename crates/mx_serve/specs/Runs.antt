@@ -8,8 +8,8 @@ use Rattle.mx_ids.specs.declared.users.Users.{Users}
 use Rattle.mx_http.specs.declared.call.Call.{Call}
 use Rattle.mx_serve.specs.declared.connection.End.{End}
 use Rattle.mx_serve.specs.declared.connection.End.TheVariants as end
-use Rattle.mx_serve.specs.declared.run.Status.{Status}
-use Rattle.mx_serve.specs.declared.run.Status.TheVariants as status
+use Rattle.mx_serve.specs.declared.session.Status.{Status}
+use Rattle.mx_serve.specs.declared.session.Status.TheVariants as status
 use Rattle.mx_serve.specs.Words.{AreWords}
 use Rattle.mx_serve.specs.UsersFile.{users_of}
 use Rattle.mx_serve.specs.Chains.{ChainsAgree}

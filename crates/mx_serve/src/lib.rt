@@ -10,11 +10,11 @@ mod connection;
 mod entries;
 mod refusal;
 mod respond;
-mod run;
+mod session;
 mod sync_query;
 mod texts;
 mod users_file;
 mod words;
 
 pub use chains::chains_agree;
-pub use run::{Status, run};
+pub use session::{Status, run, tell};

@@ -3,19 +3,20 @@
 
 use mx_ids::Memory;
 use mx_outside::{HostFiles, StdErr, StdIn, StdOut};
-use mx_serve::{Status, run};
+use mx_serve::{Status, run, tell};
 use std::env;
 use std::io::ErrorKind;
 use std::process::ExitCode;
 
 fn main(rt: HostRuntime) -> ExitCode {
+    let mut errors = StdErr::new(rt.stderr());
     let Ok(words) = program_words(&rt) else {
+        tell(&mut errors, Status::Memory);
         return ExitCode::from(Status::Memory as u8);
     };
     let mut files = HostFiles::new(rt);
     let mut input = StdIn::new(rt.stdin());
     let mut output = StdOut::new(rt.stdout());
-    let mut errors = StdErr::new(rt.stderr());
     let alloc = rt.alloc();
     let status = run(
         alloc,

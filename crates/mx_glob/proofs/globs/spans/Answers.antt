@@ -7,15 +7,16 @@ use Rattle.mx_glob.proofs.globs.spans.Goals as goal
 pub returns-in-None : goal.returns-in-None
 returns-in-None c =
     sym (spans_not c.args.same c.pieces.begins c.args.end (chars c.pieces.rest.now) (chars c.in-Some.after.now) (place_of c.pieces.place.before c.pieces.place.behind.now)
-        (sym c.in-Some.ensures.rest) (sym c.in-None.ensures))
+    (sym c.in-Some.ensures.rest) (sym c.in-None.ensures))
     ∙ c.pieces.invariant.1
 
 pub pieces-preserved : goal.pieces-preserved
-pieces-preserved c =
-    (search rules,
-    sym (spans_on c.args.same c.pieces.begins c.args.end (chars c.pieces.rest.now) (chars c.in-Some.after.now) (place_of c.pieces.place.before c.pieces.place.behind.now) _
-        (sym c.in-Some.ensures.rest) (sym c.in-Some-find.ensures))
-    ∙ c.pieces.invariant.1)
+pieces-preserved c = (
+  search rules,
+  sym (spans_on c.args.same c.pieces.begins c.args.end (chars c.pieces.rest.now) (chars c.in-Some.after.now) (place_of c.pieces.place.before c.pieces.place.behind.now) _
+      (sym c.in-Some.ensures.rest) (sym c.in-Some-find.ensures))
+      ∙ c.pieces.invariant.1,
+)
 
 pub returns : goal.returns
 returns c =
