@@ -1,7 +1,7 @@
 //! A writer's rooms, from the block that creates one. Drafts are JSON texts: each is a list of its type, state key or `null`,
 //! sender and content, the device and the id of its transaction, and the writer and the position of its room; a case has
 //! besides what becomes of it.
-ghost use Rattle.std.specs.Prelude.{◌≡◌, ◌<◌, [], ◌∷◌, length};
+ghost use Rattle.std.specs.Prelude.{◌≡◌, ◌<◌, ◌+◌, [], ◌∷◌, length};
 ghost use Rattle.std.specs.List.{AllByRecursion};
 ghost use Rattle.mx_event.specs.declared.event.Event.{Event};
 ghost use Rattle.mx_room.specs.Books.{events_of};
