@@ -69,3 +69,4 @@ pub set_now : (user : List ℕ) (room : Option RoomId) (es now : List (Bor (List
     → now ≡ insert_entry cmp_now es k v → map pair_now now ≡ cond (is_of user room e) (set_entry (map pair_now es) e) (map pair_now es)
 set_now user room es now k v (entry.Data own_user own_room kind content at) found is =
     ap (map pair_now) is ∙ insert_now es k v ∙ set_known (map pair_now es) k.now v.now (bytes_eq own_user user && same_room own_room room) kind content found
+set_now user room es now k v (entry.Filter own_user id filter at) found is = absurd cc

@@ -1,11 +1,10 @@
 -- A walk back over a list of entries, from a position to 1.
-use Rattle.std.proofs.Common.{◌≡◌, ℕ, zero, suc, ◌-◌, Bool, true, false, cond, List, [], ◌∷◌, ◌++◌, take, length, min, Option, Some, None, option_map, slice_get, refl, sym, ap, ◌∙◌, inl, inr, arith}
-use Rattle.std.proofs.lemmas.Bool.{cases_lt}
-use Rattle.std.proofs.lemmas.List.{take_all}
+use Rattle.std.proofs.Common.{◌≡◌, ℕ, ◌-◌, Bool, true, false, cond, List, [], ◌∷◌, take, length, min, Option, Some, None, option_map, refl, sym, ap, ◌∙◌}
 use Rattle.std.specs.Option.{option_or}
 use Rattle.mx_ids.specs.declared.room_id.RoomId.{RoomId}
 use Rattle.mx_json.specs.declared.value.Json.{Json}
 use Rattle.mx_lanes.specs.Parts.{Taken, part_at}
+use Rattle.mx_lanes.proofs.Walk.{taken-back, take-min}
 use Rattle.mx_window.specs.Lasts.{last_of}
 use Rattle.mx_window.proofs.Intervals.{between-take}
 use Rattle.mx_window.proofs.Lasts.{last_of-append}
@@ -16,16 +15,6 @@ use Rattle.mx_account.specs.Values.{AreInPlace, value_at}
 -- the content of the last entry of this user, room and type
 abbrev pub last_content : List ℕ → Option RoomId → List ℕ → List Entry → Option Json
 last_content user room kind entries = option_map content_of (last_of (is_data_of user room kind) entries)
-
--- a front of a list, one item longer
-take-next : {A : Type 0} (xs : List A) (i : ℕ) (x : A) → slice_get xs i ≡ Some x → take (suc i) xs ≡ take i xs ++ x ∷ []
-take-next [] i x is = absurd cc
-take-next (y ∷ xs) zero x is = let same : y ≡ x = cc in ap (λ z. z ∷ []) same
-take-next (y ∷ xs) (suc i) x is = ap (λ l. y ∷ l) (take-next xs i x is)
-
-taken-back : (parts : Taken Entry) (p : ℕ) (e : Entry) → Some e ≡ part_at parts p → take p parts.items ≡ take (p - 1) parts.items ++ e ∷ []
-taken-back parts zero e is = absurd cc
-taken-back parts (suc p) e is = let back : suc p - 1 ≡ p = omega arith in rw back (take-next parts.items p e (sym is))
 
 first_found : (b : Bool) (e : Entry) (rest : Option Entry) → option_map content_of (option_or (cond b (Some e) None) rest) ≡ option_or (cond b (Some (content_of e)) None) (option_map content_of rest)
 first_found true e rest = refl
@@ -42,12 +31,6 @@ one_back user room kind parts p e found is here =
     ∙ ap (option_map content_of) (last_of-append test before (e ∷ []))
     ∙ first_found (test e) e (last_of test before)
     ∙ ap (λ o. option_or o (last_content user room kind before)) (sym here)
-
-take-min : {A : Type 0} (n : ℕ) (xs : List A) → take (min n (length xs)) xs ≡ take n xs
-take-min n xs = elim (cases_lt (length xs) n) [
-  | inr short ↦ let least : min n (length xs) ≡ n = omega arith in rw least refl
-  | inl long ↦ let least : min n (length xs) ≡ length xs = omega arith in rw least (take_all (length xs) xs (omega arith) ∙ sym (take_all n xs (omega arith)))
-]
 
 -- where the walk begins
 pub begins : (user : List ℕ) (room : Option RoomId) (kind : List ℕ) (a p : ℕ) (entries : List Entry) → AreInPlace entries → p ≡ min a (length entries)

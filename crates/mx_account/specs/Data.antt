@@ -12,6 +12,7 @@ use Rattle.mx_account.specs.Entries.{is_of}
 -- the data with the content of an entry under its type
 abbrev pub set_entry : List (List ℕ × Json) → Entry → List (List ℕ × Json)
 set_entry known (entry.Data user room kind content at) = insert_entry (slice_cmp nat_cmp) known kind content
+set_entry known (entry.Filter user id filter at) = known
 
 -- the data of a user and a room in these entries: for each type the last content, in byte order of types
 abbrev pub data_of : List ℕ → Option RoomId → List Entry → List (List ℕ × Json)

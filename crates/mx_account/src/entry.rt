@@ -22,6 +22,17 @@ pub enum Entry {
         /// The item's position in the stream of account data, from 1, below 2^48.
         at: u64,
     },
+    /// A filter that a user stored (Client-Server API, Filtering). It is in no sync's account data.
+    Filter {
+        /// The user that stored the filter, and alone reads it.
+        user: UserId,
+        /// The filter's id, whose text is decimal: the user's filters are numbered from 0.
+        id: u64,
+        /// The filter as it was given.
+        filter: Json,
+        /// The item's position in the stream of account data, from 1, below 2^48.
+        at: u64,
+    },
 }
 
 impl Entry {
@@ -37,7 +48,7 @@ impl Entry {
                 content,
                 ..
             } if own_user == user && *own_room == room => Some((kind, content)),
-            Entry::Data { .. } => None,
+            Entry::Data { .. } | Entry::Filter { .. } => None,
         }
     }
 }
@@ -58,6 +69,17 @@ impl Copied for Entry {
                 content: content.copy(alloc)?,
                 at: *at,
             }),
+            Entry::Filter {
+                user,
+                id,
+                filter,
+                at,
+            } => Ok(Entry::Filter {
+                user: user.copy(alloc)?,
+                id: *id,
+                filter: filter.copy(alloc)?,
+                at: *at,
+            }),
         }
     }
 }
@@ -71,6 +93,7 @@ impl Placed for Entry {
     fn place(&mut self, _first: u64, at: u64) {
         match self {
             Entry::Data { at: own, .. } => *own = at,
+            Entry::Filter { at: own, .. } => *own = at,
         }
     }
 }

@@ -4,3 +4,4 @@ mod Named
 mod Next
 mod Numbering
 mod Sorted
+pub mod Crosses

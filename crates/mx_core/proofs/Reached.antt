@@ -6,14 +6,14 @@ use Rattle.mx_core.specs.declared.machine.Block.{Block}
 use Rattle.mx_core.specs.declared.machine.Step.{Step}
 use Rattle.mx_core.specs.declared.machine.Step.TheVariants.{Draw, Store}
 use Rattle.mx_core.specs.Front.{IsFront}
-use Rattle.mx_core.specs.History.{item_at, is_stored, stored_count, Begins}
+use Rattle.mx_core.specs.History.{item_at, is_stored, stored_count, AreOf, Begins}
 use Rattle.mx_core.specs.Moves.{Takes}
 use Rattle.mx_core.specs.Runs.{Runs, IsReached, CoversNoUnfinishedWrite, NeverFalls}
 use Rattle.mx_core.specs.State.{State, start, block_of, drawn, stored, held_count, before_block, free_to}
 use Rattle.mx_core.proofs.Histories.{no_item, item_kept, front_below, begins_self, begins_trans}
 use Rattle.mx_core.proofs.Sound.{IsSound, sound_start, sound_drawn, sound_stored, filled_length}
 
-sound_taken : {I : Type 0} (s t : State I) (step : Step I) → Takes s step t → IsSound s → IsSound t
+pub sound_taken : {I : Type 0} (s t : State I) (step : Step I) → Takes s step t → IsSound s → IsSound t
 sound_taken s t (Draw writer count) take r = subst IsSound (sym take.3) (sound_drawn s r writer count take.0.0 take.0.1 take.1 take.2)
 sound_taken s t (Store writer items) take r = let b = take.1.0 in subst IsSound (sym take.1.3) (sound_stored s r writer b items take.0 take.1.1 take.1.2)
 
@@ -21,14 +21,14 @@ sound_run : {I : Type 0} (s t : State I) (steps : List (Step I)) → Runs s step
 sound_run s t [] run r = subst IsSound run r
 sound_run s t (step ∷ steps) run r = sound_run run.0 t steps run.2 (sound_taken s run.0 step run.1 r)
 
-is_sound : {I : Type 0} (s : State I) → IsReached s → IsSound s
+pub is_sound : {I : Type 0} (s : State I) → IsReached s → IsSound s
 is_sound s reached = sound_run (start reached.writers reached.limit) s reached.steps reached.run (sound_start reached.writers reached.limit)
 
 run_more : {I : Type 0} (s t u : State I) (steps : List (Step I)) (step : Step I) → Runs s steps t → Takes t step u → Runs s (steps ++ step ∷ []) u
 run_more s t u [] step run take = (u, subst (λ x. Takes x step u) (sym run) take, refl)
 run_more s t u (first ∷ steps) step run take = (run.0, run.1, run_more run.0 t u steps step run.2 take)
 
-ran : {I : Type 0} (s : State I) (writers limit : ℕ) (steps : List (Step I)) → Runs (start writers limit) steps s → IsReached s
+pub ran : {I : Type 0} (s : State I) (writers limit : ℕ) (steps : List (Step I)) → Runs (start writers limit) steps s → IsReached s
 ran s writers limit steps run = record { writers = writers; limit = limit; steps = steps; run = run }
 
 -- the start is reached, and what a step makes of a reached state
@@ -48,6 +48,10 @@ reached_drawn s k n reached lt pos free below = reached_taken s (drawn s k n) (D
 
 pub reached_stored : {I : Type 0} (s : State I) (k : ℕ) (b : Block) (items : List I) → IsReached s → k < length s.held → block_of s k ≡ Some b → b.count ≡ length items → IsReached (stored s k b.first items)
 reached_stored s k b items reached lt is count = reached_taken s (stored s k b.first items) (Store k items) reached (lt, (b, is, count, refl))
+
+-- each store is of one of the writers
+pub reached_writers : {I : Type 0} (s : State I) → IsReached s → AreOf (length s.held) s.history
+reached_writers s reached = (is_sound s reached).writers
 
 -- a stored position is one of those drawn
 pub stored_in : {I : Type 0} (s : State I) → IsReached s → (p : ℕ) → is_stored s.history p ≡ true → (0 < p) × (p ≤ s.next)

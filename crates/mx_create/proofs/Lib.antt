@@ -1,7 +1,9 @@
 pub mod Admitting
 pub mod Drafts
+pub mod Fields
 pub mod Listed
 pub mod Objects
 pub mod Outcomes
 pub mod Placing
 pub mod Sets
+pub mod Tests

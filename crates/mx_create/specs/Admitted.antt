@@ -1,5 +1,5 @@
 -- Whether a block of drafts creates a room of a writer, and the events that it puts there.
-use Rattle.std.specs.Prelude.{◌≡◌, ℕ, ◌<◌, ◌≤◌, List, [], ◌∷◌, ◌++◌, map, length, Bool, Option, Some, None, IsSome, Result, Ok, Err, if◌then◌else◌}
+use Rattle.std.specs.Prelude.{◌≡◌, ℕ, ◌<◌, ◌≤◌, ◌==◌, ◌&&◌, List, [], ◌∷◌, ◌++◌, map, length, Bool, Option, Some, None, IsSome, Result, Ok, Err, if◌then◌else◌, is_none, is_some, nat_le, nat_lt}
 use Rattle.std.specs.List.{AllByRecursion, list_all}
 use Rattle.std.specs.Option.{option_or}
 use Rattle.mx_ids.specs.User.{server_of}
@@ -22,6 +22,13 @@ pub record IsBlock (drafts : List Draft) : Type 0 where
   pub some : 0 < length drafts
   pub most : length drafts ≤ 256
   pub new : AllByRecursion IsUnplaced drafts
+
+-- the same as tests
+abbrev pub is_unplaced : Draft → Bool
+is_unplaced d = is_some d.state_key && ((d.room.writer == 0) && ((d.room.at == 0) && is_none d.txn))
+
+abbrev pub is_block : List Draft → Bool
+is_block drafts = nat_lt 0 (length drafts) && (nat_le (length drafts) 256 && list_all is_unplaced drafts)
 
 -- the event that a draft makes in a new room of a writer
 abbrev pub made : ℕ → Draft → Event

@@ -1,8 +1,10 @@
 -- The body of POST /createRoom (Client-Server API): its form, and what it lists.
-use Rattle.std.specs.Prelude.{ℕ, List, [], Bool, true, false, ◌&&◌, Option, Some, None, is_some, option_and_then, unwrap_or, codes}
+use Rattle.std.specs.Prelude.{ℕ, List, [], Bool, true, false, ◌&&◌, Option, Some, None, is_some, option_and_then, unwrap_or, codes, if◌then◌else◌}
 use Rattle.std.specs.List.{list_all, filter_map}
 use Rattle.mx_json.specs.Fields.{field, is_object, list_of, text_at, text_of}
 use Rattle.mx_json.specs.declared.value.Json.{Json}
+use Rattle.mx_create.specs.declared.body.BodyField.{BodyField}
+use Rattle.mx_create.specs.declared.body.BodyField.TheVariants as fields
 
 abbrev pub is_text_value : Json → Bool
 is_text_value j = is_some (text_of j)
@@ -40,6 +42,13 @@ is_create_body ask =
     is_object ask
     && (is_none_or_list_of is_state_entry (field (codes "initial_state") ask)
     && is_none_or_list_of is_text_value (field (codes "invite") ask))
+
+-- the first part that doesn't have its form
+abbrev pub wrong_field : Json → Option BodyField
+wrong_field ask =
+    if is_object ask then (if is_none_or_list_of is_state_entry (field (codes "initial_state") ask)
+    then (if is_none_or_list_of is_text_value (field (codes "invite") ask) then None else Some fields.Invite)
+    else Some fields.InitialState) else Some fields.Body
 
 -- the items of the list at a key; none where there is no list
 abbrev pub listed : List ℕ → Json → List Json

@@ -1,15 +1,26 @@
 //! The body of `POST /createRoom`: its form, and what it lists.
-ghost use Rattle.std.specs.Prelude.{◌≡◌, [], codes, option_and_then, option_map};
+ghost use Rattle.std.specs.Prelude.{◌≡◌, [], true, codes, option_and_then, option_map, IfNone};
 ghost use Rattle.std.specs.List.{list_all};
 ghost use Rattle.std.specs.Option.{option_map_or};
 ghost use Rattle.mx_event.specs.Kinds.{is_text};
 ghost use Rattle.mx_json.specs.Fields.{field, list_of, text_at};
 ghost use Rattle.mx_create.specs.Blocks.{text_or_empty};
-ghost use Rattle.mx_create.specs.Bodies.{is_create_body, is_list_of, is_none_or_list_of, is_none_or_text, is_object_at, is_state_entry, is_text_value, listed};
+ghost use Rattle.mx_create.specs.Bodies.{is_create_body, is_list_of, is_none_or_list_of, is_none_or_text, is_object_at, is_state_entry, is_text_value, listed, wrong_field};
 ghost use Rattle.mx_create.specs.Contents.{is_set, members_or_none};
 
 use mx_ids::Seq;
 use mx_json::{Json, Members};
+
+/// What of a body of `POST /createRoom` doesn't have its form.
+#[derive(Clone, Copy, Debug, PartialEq, Eq)]
+pub enum BodyField {
+    /// The body itself, which is no object.
+    Body,
+    /// The field `initial_state`.
+    InitialState,
+    /// The field `invite`.
+    Invite,
+}
 
 /// Whether a value has the form of a body of `POST /createRoom` (Client-Server API): an object
 /// whose `initial_state`, if it is there, is a list of objects, each with a text `type`, an object
@@ -18,7 +29,26 @@ use mx_json::{Json, Members};
 pub fn is_create_body(ask: &Json) -> bool
     ensures { result ≡ is_create_body ask.now }
 {
-    ask.as_object().is_some() && (has_state_list(ask) && has_invite_list(ask))
+    wrong_field(ask).is_none()
+}
+
+/// The first part of a body of `POST /createRoom` that doesn't have its form; `None` exactly where
+/// `is_create_body`. Takes no memory.
+#[tactic(auto, using(crate::proofs::Fields::none_wrong))]
+pub fn wrong_field(ask: &Json) -> Option<BodyField>
+    ensures field { result ≡ wrong_field ask.now }
+    ensures form { IfNone result (is_create_body ask.now ≡ true) }
+{
+    if ask.as_object().is_none() {
+        return Some(BodyField::Body);
+    }
+    if !has_state_list(ask) {
+        return Some(BodyField::InitialState);
+    }
+    if !has_invite_list(ask) {
+        return Some(BodyField::Invite);
+    }
+    None
 }
 
 /// Whether `initial_state` lists state entries, if it is there.

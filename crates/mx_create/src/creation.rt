@@ -2,7 +2,7 @@
 ghost use Rattle.std.specs.Prelude.{◌≡◌, ◌⊎◌, ◌++◌, true, ◌≤◌, IfOk, IfErr, OnOk, Ok, Err, [], ◌∷◌, map, length, codes, count_by};
 ghost use Rattle.std.specs.Option.{option_to_list};
 ghost use Rattle.mx_json.specs.Fields.{field, text_at, text_of};
-ghost use Rattle.mx_create.specs.Admitted.{IsBlock};
+ghost use Rattle.mx_create.specs.Admitted.{IsBlock, is_block};
 ghost use Rattle.mx_create.specs.Blocks.{Creating, block_of, creating, draft, drafts_of, first_drafts, initial, invitation, is_eleven, named, rules};
 ghost use Rattle.mx_create.specs.Bodies.{invited, is_create_body, is_text_value, listed};
 ghost use Rattle.mx_create.specs.Contents.{single};
@@ -57,6 +57,7 @@ pub fn block(
     requires body { is_create_body ask.now ≡ true }
     ensures found { IfOk result (λ drafts. block_of (record { creator = creator.now; ts = ts }) users.now ask.now ≡ Ok drafts) }
     ensures block { IfOk result IsBlock }
+    ensures test { IfOk result (λ drafts. is_block drafts ≡ true) }
     ensures refused { IfErr result (λ f. (f ≡ faults.Memory) ⊎ (block_of (record { creator = creator.now; ts = ts }) users.now ask.now ≡ Err f)) }
 {
     if !is_eleven(ask) {

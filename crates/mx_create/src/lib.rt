@@ -11,7 +11,7 @@ mod laws;
 mod preset;
 
 pub use admission::admit_block;
-pub use body::is_create_body;
+pub use body::{BodyField, is_create_body, wrong_field};
 pub use creation::block;
 pub use fault::CreateFault;
 pub use laws::block_is_lawful;

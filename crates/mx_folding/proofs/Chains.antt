@@ -14,8 +14,8 @@ use Rattle.std.specs.Option.{option_and_then}
 use Rattle.mx_folding.proofs.Pages.{folds_page}
 use Rattle.mx_folding.proofs.Memberships.{folds_room}
 use Rattle.mx_folding.specs.Visible.{Membership, Join, Invite, Leave, Ban, is_join}
-use Rattle.mx_folding.specs.Stories.{Tokens, IsTokens, Story, own_at, IsStory, Standing, Out, In, Asked, standing_by, standing_of, standing, Holding, Holds, HoldingAgrees, IsNext, IsBase}
-use Rattle.mx_folding.specs.Chains.{Client, new_client, Gap, around, Turn, Synced, Paged, base_of, paged, with_paged, after_turn, after_turns, IsOpen, IsPast, AreTurns, Agrees, ChainsFold}
+use Rattle.mx_folding.specs.Stories.{Tokens, IsTokens, Story, own_at, IsStory, Standing, Out, In, Asked, standing_by, standing_of, standing, Holding, StandingAgrees, HoldingAgrees, IsNext, IsBase}
+use Rattle.mx_folding.specs.Chains.{Client, new_client, Opening, around, Turn, Synced, Paged, base_of, paged, with_paged, after_turn, after_turns, IsOpen, IsPast, AreTurns, Agrees, ChainsFold}
 
 -- b lies at or before the token, and the token at or before the front
 abbrev IsSound : {T : Type 0} → Tokens T → ℕ → Option T → ℕ → Type 0
@@ -52,29 +52,29 @@ stands_in g true (Some e) h = by (g.membership e) h where
   by (Some Ban) h = absurd (cc (h))
 
 -- a page of a room that the user is joined in
-page_in : {E K V D T : Type 0} (k : Tokens T) (g : Story E K V D T) (story : IsStory k g) (limit b e front front' : ℕ) (i : T) (gap : Gap E) (had : Holding E K V) (st : Standing)
-    → standing g (k.event i) ≡ st → k.event i ≤ e → e ≤ front' → front ≤ front' → IsOpen (Some gap) had → Holds k g b i front st had
-    → Holds k g b i front' st (with_paged g limit e (Some gap) had)
-page_in k g story limit b e front front' i gap had Out is past upto later open' h = absurd (cc (h.0, open'.2))
-page_in k g story limit b e front front' i gap had (Asked ids) is past upto later open' h = absurd (cc (h.0, open'.2))
-page_in {E = E} {K = K} {V = V} k g story limit b e front front' i gap had In is past upto later open' h =
+page_in : {E K V D T : Type 0} (k : Tokens T) (g : Story E K V D T) (story : IsStory k g) (limit b e front front' : ℕ) (i : T) (o : Opening E) (had : Holding E K V) (st : Standing)
+    → standing g (k.event i) ≡ st → k.event i ≤ e → e ≤ front' → front ≤ front' → IsOpen (Some o) had → StandingAgrees k g b i front st had
+    → StandingAgrees k g b i front' st (with_paged g limit e (Some o) had)
+page_in k g story limit b e front front' i o had Out is past upto later open' h = absurd (cc (h.0, open'.2))
+page_in k g story limit b e front front' i o had (Asked ids) is past upto later open' h = absurd (cc (h.0, open'.2))
+page_in {E = E} {K = K} {V = V} k g story limit b e front front' i o had In is past upto later open' h =
     let room : ClientRoom E K = h.0 in
     let same : ◌≡◌ {A = Option (ClientRoom E K × V)} (Some (open'.0, open'.1)) (Some (h.0, h.1)) = sym open'.2 ∙ h.2 in
     let same_room : open'.0 ≡ h.0 = ap (λ (p : ClientRoom E K × V). p.0) (same_Some (open'.0, open'.1) (h.0, h.1) same) in
-    let timeline : room.timeline ≡ around gap = ap (λ (c : ClientRoom E K). c.timeline) (sym same_room) ∙ open'.3 in
-    let whole : ◌≡◌ {A = ClientRoom E K} room (record { state = room.state; timeline = around gap }) = λ j. record { state = room.state; timeline = timeline j } in
-    let agrees : RoomAgrees g.room g.events b (k.event i) front (record { state = room.state; timeline = around gap }) = subst (RoomAgrees g.room g.events b (k.event i) front) whole h.3 in
+    let timeline : room.timeline ≡ around o = ap (λ (c : ClientRoom E K). c.timeline) (sym same_room) ∙ open'.3 in
+    let whole : ◌≡◌ {A = ClientRoom E K} room (record { state = room.state; timeline = around o }) = λ j. record { state = room.state; timeline = timeline j } in
+    let agrees : RoomAgrees g.room g.events b (k.event i) front (record { state = room.state; timeline = around o }) = subst (RoomAgrees g.room g.events b (k.event i) front) whole h.3 in
     let stays : StaysSent g.room g.events (k.event i) = story.stays (k.event i) (stands_in g g.picked (own_at g (k.event i)) is) in (
-      with_page g.room gap.lower gap.front gap.before gap.behind (page_of g.room g.events limit gap.front e gap.lower gap.upper) room.state,
+      with_page g.room o.gap o.before o.behind (page_of g.room g.events limit e o.gap) room.state,
       h.1,
-      ap (option_map (paged g limit e gap)) h.2,
-      folds_page g.room g.events story.room limit b (k.event i) front front' e gap.lower gap.upper gap.front gap.before gap.behind room.state stays past upto later agrees,
+      ap (option_map (paged g limit e o)) h.2,
+      folds_page g.room g.events story.room limit b (k.event i) front front' e o.gap o.before o.behind room.state stays past upto later agrees,
       h.4,
       h.5,
     )
 
 -- a later front asks no more of what is held
-holds_later : {E K V D T : Type 0} (k : Tokens T) (g : Story E K V D T) (b : ℕ) (i : T) (front front' : ℕ) (st : Standing) (had : Holding E K V) → front ≤ front' → Holds k g b i front st had → Holds k g b i front' st had
+holds_later : {E K V D T : Type 0} (k : Tokens T) (g : Story E K V D T) (b : ℕ) (i : T) (front front' : ℕ) (st : Standing) (had : Holding E K V) → front ≤ front' → StandingAgrees k g b i front st had → StandingAgrees k g b i front' st had
 holds_later k g b i front front' Out had up h = h
 holds_later k g b i front front' (Asked ids) had up h = h
 holds_later k g b i front front' In had up h =
@@ -94,7 +94,7 @@ holds_later k g b i front front' In had up h =
       h.5,
     )
 
-page_step : {E K V D T : Type 0} (k : Tokens T) (g : Story E K V D T) (story : IsStory k g) (limit b e front front' : ℕ) (since : Option T) (gap : Option (Gap E)) (had : Holding E K V)
+page_step : {E K V D T : Type 0} (k : Tokens T) (g : Story E K V D T) (story : IsStory k g) (limit b e front front' : ℕ) (since : Option T) (gap : Option (Opening E)) (had : Holding E K V)
     → IsPast k since e → e ≤ front' → front ≤ front' → IsOpen gap had → HoldingAgrees k g b since front had → HoldingAgrees k g b since front' (with_paged g limit e gap had)
 page_step k g story limit b e front front' None None had past upto later open' agrees = agrees
 page_step k g story limit b e front front' None (Some gap) had past upto later open' agrees = absurd (cc (agrees.0, open'.2))

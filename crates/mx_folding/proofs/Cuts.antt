@@ -7,8 +7,8 @@ use Rattle.mx_window.specs.Lasts.{last}
 use Rattle.mx_window.proofs.Each.{AllByRecursion-map, AllByRecursion-weaker, AllByRecursion-filter, AllByRecursion-passed, AllByRecursion-none, map-map, map-same}
 use Rattle.mx_window.proofs.Intervals.{between-inner, between-within, Ascends-filter, Ascends-between, Ascends-map}
 use Rattle.mx_window.proofs.Sections.{last-between, after-last, list_any-filter, AllByRecursion-drop}
-use Rattle.mx_folding.specs.Rooms.{Room, IsRoom}
-use Rattle.mx_folding.specs.Sections.{sendable, break_at, section, cut, is_limited, chunk}
+use Rattle.mx_folding.specs.Rooms.{Room, IsRoom, is_kept}
+use Rattle.mx_folding.specs.Sections.{sendable, break_at, section, cut, is_limited, chunk, window}
 use Rattle.mx_folding.specs.Redactions.{shown}
 use Rattle.mx_folding.specs.Laws.{SectionIsWindow, SentIsVisible}
 use Rattle.mx_folding.proofs.Timelines.{sendable-split}
@@ -48,33 +48,33 @@ sent_from r es limit front low from high q sent room h k e qe =
 
 pub break_within : {E K : Type 0} (r : Room E K) (es : List E) (front low high : ℕ) → IsRoom r es → low ≤ high
     → (low ≤ break_at r es front low high) × (break_at r es front low high ≤ high)
-    × (list_any (λ e. r.keeps e && not (r.sends front e)) (between r.at (break_at r es front low high) high es) ≡ false)
+    × (list_any (λ e. is_kept r e && not (r.sends front e)) (between r.at (break_at r es front low high) high es) ≡ false)
 break_within r es front low high room h =
-    after-last r.at (λ e. r.keeps e && not (r.sends front e)) low high 0 es room.ascends h (break_at r es front low high) refl
+    after-last r.at (λ e. is_kept r e && not (r.sends front e)) low high 0 es room.ascends h (break_at r es front low high) refl
 
 pub section_sent : {E K : Type 0} (r : Room E K) (es : List E) (after : Bool) (limit front low high : ℕ) → IsRoom r es → low ≤ high
-    → Sent r es front low high (cut r es after limit front low high) (section r es after limit front low high) (is_limited r es after limit front low high)
+    → Sent r es front low high (cut r es front (window after limit low high)) (section r es front (window after limit low high)) (is_limited r es front (window after limit low high))
 section_sent r es true limit front low high room h =
-    sent_from r es limit front low low high (cut r es true limit front low high) (section r es true limit front low high) room (omega arith) h refl refl
+    sent_from r es limit front low low high (cut r es front (window true limit low high)) (section r es front (window true limit low high)) room (omega arith) h refl refl
 section_sent r es false limit front low high room h =
     let facts = break_within r es front low high room h in
-    sent_from r es limit front low (break_at r es front low high) high (cut r es false limit front low high) (section r es false limit front low high) room facts.0 facts.1 refl refl
+    sent_from r es limit front low (break_at r es front low high) high (cut r es front (window false limit low high)) (section r es front (window false limit low high)) room facts.0 facts.1 refl refl
 
 -- with the state before the timeline, each kept event above the cut may be sent
 pub no_break : {E K : Type 0} (r : Room E K) (es : List E) (limit front low high : ℕ) → IsRoom r es → low ≤ high
-    → AllByRecursion (λ e. r.keeps e ≡ true → r.sends front e ≡ true) (between r.at (cut r es false limit front low high) high es)
+    → AllByRecursion (λ e. is_kept r e ≡ true → r.sends front e ≡ true) (between r.at (cut r es front (window false limit low high)) high es)
 no_break r es limit front low high room h =
     let b : ℕ = break_at r es front low high in
-    let q : ℕ = cut r es false limit front low high in
+    let q : ℕ = cut r es front (window false limit low high) in
     let facts = break_within r es front low high room h in
-    let sent : Sent r es front b high q (section r es false limit front low high) _ =
-    sent_from r es limit front b b high q (section r es false limit front low high) room (omega arith) facts.1 refl refl in
+    let sent : Sent r es front b high q (section r es front (window false limit low high)) _ =
+    sent_from r es limit front b b high q (section r es front (window false limit low high)) room (omega arith) facts.1 refl refl in
     let inner : between r.at q high (between r.at b high es) ≡ between r.at q high es = between-inner r.at q high b high es sent.low_q (omega arith) in
-    let none : list_any (λ e. r.keeps e && not (r.sends front e)) (between r.at q high es) ≡ false =
-    ap (list_any (λ e. r.keeps e && not (r.sends front e))) (sym inner)
-    ∙ list_any-filter (λ e. r.keeps e && not (r.sends front e)) (λ e. nat_lt q (r.at e) && nat_le (r.at e) high) (between r.at b high es) facts.2 in
-    AllByRecursion-weaker (λ e. (r.keeps e && not (r.sends front e)) ≡ false) (λ e. r.keeps e ≡ true → r.sends front e ≡ true)
-    (λ e n k. sends_from (r.keeps e) (r.sends front e) n k) (between r.at q high es) (AllByRecursion-none (λ e. r.keeps e && not (r.sends front e)) (between r.at q high es) none) where
+    let none : list_any (λ e. is_kept r e && not (r.sends front e)) (between r.at q high es) ≡ false =
+    ap (list_any (λ e. is_kept r e && not (r.sends front e))) (sym inner)
+    ∙ list_any-filter (λ e. is_kept r e && not (r.sends front e)) (λ e. nat_lt q (r.at e) && nat_le (r.at e) high) (between r.at b high es) facts.2 in
+    AllByRecursion-weaker (λ e. (is_kept r e && not (r.sends front e)) ≡ false) (λ e. is_kept r e ≡ true → r.sends front e ≡ true)
+    (λ e n k. sends_from (is_kept r e) (r.sends front e) n k) (between r.at q high es) (AllByRecursion-none (λ e. is_kept r e && not (r.sends front e)) (between r.at q high es) none) where
       sends_from : (a b : Bool) → (a && not b) ≡ false → a ≡ true → b ≡ true
       sends_from true true n k = refl
       sends_from true false n k = absurd (true≢false n)
@@ -110,15 +110,15 @@ none_more xs ys zs sent e f none = le-ltb (length sent) (length zs) (omega (arit
 
 pub section_is_window : {E K : Type 0} → SectionIsWindow E K
 section_is_window r es room after limit front low high q h is =
-    let facts : Sent r es front low high (cut r es after limit front low high) (section r es after limit front low high) (is_limited r es after limit front low high) = section_sent r es after limit front low high room h in
-    subst (λ x. (section r es after limit front low high ≡ sendable r es front x high) × (low ≤ x) × (x ≤ high) × ((is_limited r es after limit front low high ≡ false) ↔ (sendable r es front low x ≡ []))) (sym is) (
+    let facts : Sent r es front low high (cut r es front (window after limit low high)) (section r es front (window after limit low high)) (is_limited r es front (window after limit low high)) = section_sent r es after limit front low high room h in
+    subst (λ x. (section r es front (window after limit low high) ≡ sendable r es front x high) × (low ≤ x) × (x ≤ high) × ((is_limited r es front (window after limit low high) ≡ false) ↔ (sendable r es front low x ≡ []))) (sym is) (
       facts.is,
       facts.low_q,
       facts.q_high,
       (
         facts.none,
-        none_more (sendable r es front low (cut r es after limit front low high)) (sendable r es front (cut r es after limit front low high) high) (sendable r es front low high) (section r es after limit front low high)
-            (sendable-split r es front low (cut r es after limit front low high) high room facts.low_q facts.q_high) facts.is,
+        none_more (sendable r es front low (cut r es front (window after limit low high))) (sendable r es front (cut r es front (window after limit low high)) high) (sendable r es front low high) (section r es front (window after limit low high))
+            (sendable-split r es front low (cut r es front (window after limit low high)) high room facts.low_q facts.q_high) facts.is,
       ),
     )
 

@@ -1,3 +1,4 @@
+pub mod Keys
 pub mod Redacting
 pub mod Timelines
 pub mod Cuts
@@ -12,5 +13,3 @@ pub mod Memberships
 pub mod Chains
 pub mod Longer
 pub mod Lists
-pub mod Events
-pub mod LongerEvents

@@ -7,15 +7,15 @@ use Rattle.mx_window.specs.Lasts.{last_of}
 use Rattle.mx_window.proofs.Each.{AllByRecursion-filter}
 use Rattle.mx_window.proofs.Intervals.{between-within}
 use Rattle.mx_window.proofs.Lasts.{last_of-some, last_of-split}
-use Rattle.mx_folding.specs.Parts.{picks, picks_new, Part, part_of}
+use Rattle.mx_folding.specs.Sections.{window}
+use Rattle.mx_folding.specs.Parts.{picks, picks_new, Part, part_of, has_some}
 use Rattle.mx_folding.specs.Clients.{ClientRoom, empty_room, with_part}
 use Rattle.mx_folding.specs.Agreement.{RoomAgrees}
-use Rattle.mx_folding.specs.Laws.{has_some}
 use Rattle.mx_folding.proofs.Replies.{folds_reply, folds_new}
 use Rattle.std.specs.Option.{option_and_then}
 use Rattle.mx_folding.proofs.Rest.{folds_nothing}
 use Rattle.mx_folding.specs.Visible.{Membership, Join, Invite, Leave, Ban, is_join}
-use Rattle.mx_folding.specs.Stories.{Tokens, IsTokens, Story, own_at, joined_in, IsStory, Out, In, standing_by, standing_of, Nothing, Anew, More, Sync, told_joined, told_by, told_of, Holding, more_joined, with_told, Holds, HoldingAgrees, FoldsRoom}
+use Rattle.mx_folding.specs.Stories.{Tokens, IsTokens, Story, own_at, joined_in, IsStory, Out, In, standing_by, standing_of, Nothing, Anew, More, Sync, told_joined, told_by, told_of, Holding, more_joined, with_told, StandingAgrees, HoldingAgrees, FoldsRoom}
 
 -- the last own event up to a position, if it doesn't come after an earlier one, was the last there
 stood_before : {E : Type 0} (at : E → ℕ) (s : ℕ) (new old : Option E) (e : E) → ◌≡◌ {A = Option E} (option_or new old) (Some e) → ((x : E) → ◌≡◌ {A = Option E} new (Some x) → s < at x) → at e ≤ s → ◌≡◌ {A = Option E} old (Some e)
@@ -46,14 +46,14 @@ own_known k g t e story is =
 
 -- what is held agrees, by how the user stands at its token, where the filter picks the room
 holds_as : {E K V D T : Type 0} (k : Tokens T) (g : Story E K V D T) (b : ℕ) (i : T) (front : ℕ) (had : Holding E K V) (own : Option E) → g.picked ≡ true → ◌≡◌ {A = Option E} (own_at g (k.event i)) own
-    → HoldingAgrees k g b (Some i) front had → Holds k g b i front (standing_of g own) had
+    → HoldingAgrees k g b (Some i) front had → StandingAgrees k g b i front (standing_of g own) had
 holds_as k g b i front had own picked is agrees = rw (picked, is) at agrees
 
 join_stands : {E K V D T : Type 0} (k : Tokens T) (g : Story E K V D T) (b : ℕ) (i : T) (front : ℕ) (had : Holding E K V) (own : Option E) → is_join (option_and_then g.membership own) ≡ true
-    → Holds k g b i front (standing_of g own) had → Holds k g b i front In had
+    → StandingAgrees k g b i front (standing_of g own) had → StandingAgrees k g b i front In had
 join_stands k g b i front had None j h = absurd (false≢true j)
 join_stands k g b i front had (Some e) j h = by (g.membership e) j h where
-  by : (m : Option Membership) → is_join m ≡ true → Holds k g b i front (standing_by m (g.stripped e)) had → Holds k g b i front In had
+  by : (m : Option Membership) → is_join m ≡ true → StandingAgrees k g b i front (standing_by m (g.stripped e)) had → StandingAgrees k g b i front In had
   by None j h = absurd (false≢true j)
   by (Some Join) j h = h
   by (Some Invite) j h = absurd (false≢true j)
@@ -62,20 +62,20 @@ join_stands k g b i front had (Some e) j h = by (g.membership e) j h where
 
 module _ {E K V D T : Type 0} (k : Tokens T) (tokens : IsTokens k) (g : Story E K V D T) (story : IsStory k g) (ask : Sync) (heroes : K → Bool) (b : ℕ) where
   abbrev anew : T → Part E
-  anew j = part_of g.room g.events ask.after ask.limit (k.event j) 0 (k.event j) (picks_new g.room heroes)
+  anew j = part_of g.room g.events (k.event j) (window ask.after ask.limit 0 (k.event j)) (picks_new g.room heroes)
 
   abbrev more : T → T → Part E
-  more i j = part_of g.room g.events ask.after ask.limit (k.event j) (k.event i) (k.event j) (picks g.room ask.redundant b (k.event i) (cond ask.full 0 (k.event i)) heroes)
+  more i j = part_of g.room g.events (k.event j) (window ask.after ask.limit (k.event i) (k.event j)) (picks g.room ask.redundant b (k.event i) (cond ask.full 0 (k.event i)) heroes)
 
   -- a new room
-  told_anew : (j : T) (front : ℕ) (s : ℕ) (had : Holding E K V) → k.event j ≤ front → (g.room.stayed b (k.event j) ≡ true → k.event j ≤ b) → Holds k g b j front In (with_told g ask.after s (k.event j) (Anew (anew j) (g.rest.view j)) had)
+  told_anew : (j : T) (front : ℕ) (s : ℕ) (had : Holding E K V) → k.event j ≤ front → (g.room.stayed b (k.event j) ≡ true → k.event j ≤ b) → StandingAgrees k g b j front In (with_told g ask.after s (k.event j) (Anew (anew j) (g.rest.view j)) had)
   told_anew j front s had upto vacuous =
       (with_part g.room ask.after 0 (k.event j) (anew j) (empty_room E K), g.rest.view j, refl, folds_new g.room g.events story.room ask.after ask.limit (k.event j) front b heroes upto vacuous, refl, refl)
 
   -- a room that the user was joined in
   told_more : (i j : T) (front front' : ℕ) (had : Holding E K V) → k.before i j ≡ true → joined_in g (k.event i) ≡ true → joined_in g (k.event j) ≡ true → front ≤ front' → k.event j ≤ front'
-      → Holds k g b i front In had
-      → Holds k g b j front' In (with_told g ask.after (k.event i) (k.event j) (cond (has_some (more i j) || g.rest.differs i j) (More (more i j) (g.rest.delta i j)) Nothing) had)
+      → StandingAgrees k g b i front In had
+      → StandingAgrees k g b j front' In (with_told g ask.after (k.event i) (k.event j) (cond (has_some (more i j) || g.rest.differs i j) (More (more i j) (g.rest.delta i j)) Nothing) had)
   told_more i j front front' had next at_i at_j later upto h =
       let room : ClientRoom E K = h.0 in
       let folded : RoomAgrees g.room g.events b (k.event j) front' (with_part g.room ask.after (k.event i) (k.event j) (more i j) room) =
@@ -107,7 +107,7 @@ module _ {E K V D T : Type 0} (k : Tokens T) (tokens : IsTokens k) (g : Story E 
 
   -- the first reply, by the membership at its token
   first_kind : (j : T) (front : ℕ) (had : Holding E K V) (other : Part E) (e : E) (m : Option Membership) → b ≡ k.event j → k.event j ≤ front → (had.joined ≡ None) × (had.invited ≡ None)
-      → Holds k g b j front (standing_by m (g.stripped e)) (with_told g ask.after 0 (k.event j) (told_by k g None j ask.leave (anew j) other e m) had)
+      → StandingAgrees k g b j front (standing_by m (g.stripped e)) (with_told g ask.after 0 (k.event j) (told_by k g None j ask.leave (anew j) other e m) had)
   first_kind j front had other e None base upto none = none
   first_kind j front had other e (Some Join) base upto none = told_anew j front 0 had upto (λ stayed. omega arith)
   first_kind j front had other e (Some Invite) base upto none = (refl, refl)
@@ -115,14 +115,14 @@ module _ {E K V D T : Type 0} (k : Tokens T) (tokens : IsTokens k) (g : Story E 
   first_kind j front had other e (Some Ban) base upto none = elim (cases_Bool ask.leave) [ inl a ↦ rw a (refl, refl) | inr a ↦ rw a none ]
 
   first_by : (j : T) (front : ℕ) (had : Holding E K V) (other : Part E) (picked : Bool) (own : Option E) → b ≡ k.event j → k.event j ≤ front → (had.joined ≡ None) × (had.invited ≡ None)
-      → Holds k g b j front (cond picked (standing_of g own) Out) (with_told g ask.after 0 (k.event j) (cond picked (told_of k g None j ask.leave (anew j) other own) Nothing) had)
+      → StandingAgrees k g b j front (cond picked (standing_of g own) Out) (with_told g ask.after 0 (k.event j) (cond picked (told_of k g None j ask.leave (anew j) other own) Nothing) had)
   first_by j front had other false own base upto none = none
   first_by j front had other true None base upto none = none
   first_by j front had other true (Some e) base upto none = first_kind j front had other e (g.membership e) base upto none
 
   -- a later reply to a user that is joined at its token
   later_join : (i j : T) (front front' : ℕ) (had : Holding E K V) → k.before i j ≡ true → b ≤ k.event i → joined_in g (k.event j) ≡ true → front ≤ front' → k.event j ≤ front' → g.picked ≡ true
-      → HoldingAgrees k g b (Some i) front had → Holds k g b j front' In (with_told g ask.after (k.event i) (k.event j) (told_joined k g (Some i) j (anew j) (more i j)) had)
+      → HoldingAgrees k g b (Some i) front had → StandingAgrees k g b j front' In (with_told g ask.after (k.event i) (k.event j) (told_joined k g (Some i) j (anew j) (more i j)) had)
   later_join i j front front' had next base at_j later upto picked agrees =
       elim (cases_Bool (joined_in g (k.event i))) [
         | inl at_i ↦ rw at_i (told_more i j front front' had next at_i at_j later upto (join_stands k g b i front had (own_at g (k.event i)) at_i (holds_as k g b i front had (own_at g (k.event i)) picked refl agrees)))
@@ -132,14 +132,14 @@ module _ {E K V D T : Type 0} (k : Tokens T) (tokens : IsTokens k) (g : Story E 
 
   -- an event that the reply doesn't tell of stood at the earlier token
   stood : (i j : T) (front : ℕ) (had : Holding E K V) (e : E) (m : Option Membership) → k.before i j ≡ true → ◌≡◌ {A = Option E} (own_at g (k.event j)) (Some e) → ◌≡◌ {A = Option Membership} (g.membership e) m → g.picked ≡ true
-      → HoldingAgrees k g b (Some i) front had → nat_lt (k.event i) (g.room.at e) ≡ false → Holds k g b i front (standing_by m (g.stripped e)) had
+      → HoldingAgrees k g b (Some i) front had → nat_lt (k.event i) (g.room.at e) ≡ false → StandingAgrees k g b i front (standing_by m (g.stripped e)) had
   stood i j front had e m next is kind picked agrees old =
-      subst (λ m. Holds k g b i front (standing_by m (g.stripped e)) had) kind
+      subst (λ m. StandingAgrees k g b i front (standing_by m (g.stripped e)) had) kind
       (holds_as k g b i front had (Some e) picked (own_stood k g (k.event i) (k.event j) e story (tokens.rises i j next) is old) agrees)
 
   later_kind : (i j : T) (front front' : ℕ) (had : Holding E K V) (e : E) (m : Option Membership) → k.before i j ≡ true → b ≤ k.event i → front ≤ front' → k.event j ≤ front' → g.picked ≡ true
       → ◌≡◌ {A = Option E} (own_at g (k.event j)) (Some e) → ◌≡◌ {A = Option Membership} (g.membership e) m → HoldingAgrees k g b (Some i) front had
-      → Holds k g b j front' (standing_by m (g.stripped e)) (with_told g ask.after (k.event i) (k.event j) (told_by k g (Some i) j ask.leave (anew j) (more i j) e m) had)
+      → StandingAgrees k g b j front' (standing_by m (g.stripped e)) (with_told g ask.after (k.event i) (k.event j) (told_by k g (Some i) j ask.leave (anew j) (more i j) e m) had)
   later_kind i j front front' had e None next base later upto picked is kind agrees =
       let known : is_some (g.membership e) ≡ true = own_known k g (k.event j) e story is in absurd (false≢true (ap is_some (sym kind) ∙ known))
   later_kind i j front front' had e (Some Join) next base later upto picked is kind agrees =
@@ -162,7 +162,7 @@ module _ {E K V D T : Type 0} (k : Tokens T) (tokens : IsTokens k) (g : Story E 
 
   later_by : (i j : T) (front front' : ℕ) (had : Holding E K V) (picked : Bool) (own : Option E) → k.before i j ≡ true → b ≤ k.event i → front ≤ front' → k.event j ≤ front' → g.picked ≡ picked
       → ◌≡◌ {A = Option E} (own_at g (k.event j)) own → HoldingAgrees k g b (Some i) front had
-      → Holds k g b j front' (cond picked (standing_of g own) Out) (with_told g ask.after (k.event i) (k.event j) (cond picked (told_of k g (Some i) j ask.leave (anew j) (more i j) own) Nothing) had)
+      → StandingAgrees k g b j front' (cond picked (standing_of g own) Out) (with_told g ask.after (k.event i) (k.event j) (cond picked (told_of k g (Some i) j ask.leave (anew j) (more i j) own) Nothing) had)
   later_by i j front front' had false own next base later upto picked is agrees = rw picked at agrees
   later_by i j front front' had true None next base later upto picked is agrees =
       holds_as k g b i front had None picked (none_before (last_of g.is_own (between g.room.at (k.event i) (k.event j) g.events)) (own_at g (k.event i))
@@ -172,6 +172,6 @@ module _ {E K V D T : Type 0} (k : Tokens T) (tokens : IsTokens k) (g : Story E 
 pub folds_room : {E K V D T : Type 0} → FoldsRoom E K V D T
 folds_room k tokens g story ask heroes b None j front front' had next base later upto agrees =
     first_by k tokens g story ask heroes b j front' had
-    (part_of g.room g.events ask.after ask.limit (k.event j) 0 (k.event j) (picks g.room ask.redundant b 0 (cond ask.full 0 0) heroes)) g.picked (own_at g (k.event j)) base upto agrees
+    (part_of g.room g.events (k.event j) (window ask.after ask.limit 0 (k.event j)) (picks g.room ask.redundant b 0 (cond ask.full 0 0) heroes)) g.picked (own_at g (k.event j)) base upto agrees
 folds_room k tokens g story ask heroes b (Some i) j front front' had next base later upto agrees =
     later_by k tokens g story ask heroes b i j front front' had g.picked (own_at g (k.event j)) next base later upto refl refl agrees

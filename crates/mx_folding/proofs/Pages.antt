@@ -5,10 +5,10 @@ use Rattle.mx_window.specs.Windows.{Ascends, before_first}
 use Rattle.mx_window.specs.Lasts.{last_of, keep_if}
 use Rattle.mx_window.proofs.Each.{AllByRecursion-map, AllByRecursion-append, AllByRecursion-front, AllByRecursion-back, AllByRecursion-weaker, AllByRecursion-filter}
 use Rattle.mx_window.proofs.Lasts.{last_of-some}
-use Rattle.mx_folding.specs.Rooms.{Room, IsRoom, state_at}
+use Rattle.mx_folding.specs.Rooms.{Room, IsRoom, state_at, key_is, has}
 use Rattle.mx_folding.specs.Sections.{chunk}
 use Rattle.mx_folding.specs.Redactions.{is_named, is_redacted, shown, redact_by}
-use Rattle.mx_folding.specs.Parts.{is_sender, state_list, Page, page_of}
+use Rattle.mx_folding.specs.Parts.{is_sender, state_list, Page, page_of, gap_at}
 use Rattle.mx_folding.specs.Clients.{Entry, Held, Open, held, put_new, gap_if, redact_entry}
 use Rattle.mx_folding.specs.Agreement.{pictured, TimelineAgrees, is_owed, IsCopy, IsDue}
 use Rattle.mx_folding.proofs.Redacting.{redact_by-at}
@@ -26,7 +26,7 @@ keep_if-none p (Some e) h = rw (h e) refl
 
 -- a page's members have under each key the state's at g, if the client loads members lazily and the key is a sender's
 page_members : {E K : Type 0} (r : Room E K) (es : List E) (lazy : Bool) (front g : ℕ) (wanted : E → Bool) (k : K) → IsRoom r es
-    → ◌≡◌ {A = Option E} (last_of (r.has k) (cond lazy (map (shown r es front) (filter wanted (state_list r es g))) [])) (option_map (shown r es front) (keep_if (λ v. lazy && wanted v) (state_at r es g k)))
+    → ◌≡◌ {A = Option E} (last_of (has r k) (cond lazy (map (shown r es front) (filter wanted (state_list r es g))) [])) (option_map (shown r es front) (keep_if (λ v. lazy && wanted v) (state_at r es g k)))
 page_members r es true front g wanted k room = shown_last r es front k (filter wanted (state_list r es g)) room ∙ ap (option_map (shown r es front)) (wanted_last r es wanted g k room)
 page_members r es false front g wanted k room = ap (option_map (shown r es front)) (sym (keep_if-none (λ v. false) (state_at r es g k) (λ e. refl)))
 
@@ -43,14 +43,17 @@ name_order false false false = refl
 
 -- a room after a page
 pub folds_page : {E K : Type 0} → FoldsPage E K
-folds_page {E = E} {K = K} r es is limit b t front front' e lower upper g before behind state stays up later higher agrees =
+folds_page {E = E} {K = K} r es is limit b t front front' e gap before behind state stays up later higher agrees =
+    let lower : ℕ = gap.lower in
+    let upper : ℕ = gap.upper in
+    let g : ℕ = gap.front in
     let xs : List E = chunk r es limit e lower upper in
-    let page : Page E = page_of r es limit g e lower upper in
+    let page : Page E = page_of r es limit e (gap_at lower upper g) in
     let mid : ℕ = before_first r.at upper xs in
     let sent : List E = map (shown r es e) xs in
     let members : List E = page.members in
-    let old : List (Entry E) = before ++ Open lower upper g ∷ behind in
-    let tl : List (Entry E) = before ++ gap_if page.more lower mid g ++ map Held sent ++ behind in
+    let old : List (Entry E) = before ++ Open (gap_at lower upper g) ∷ behind in
+    let tl : List (Entry E) = before ++ gap_if page.more (gap_at lower mid g) ++ map Held sent ++ behind in
     let named : ℕ → Bool = is_named r (held old) in
     let named' : ℕ → Bool = is_named r (held (map (redact_entry r sent) tl)) in
     let around = Rises-around r.at t 0 t lower upper g before behind agrees.timeline.order in
@@ -67,7 +70,7 @@ folds_page {E = E} {K = K} r es is limit b t front front' e lower upper g before
     (λ n. ap (map r.at) (sym (sendable-stays r es t e lower mid stays up (omega arith)) ∙ facts.none n)) agrees.timeline in
     let copies : held (map (redact_entry r sent) tl) ≡ map (redact_by r sent) (held before ++ sent ++ held behind) =
     held-redact r sent tl ∙ ap (map (redact_by r sent)) (held_page before behind page.more lower mid g sent) in
-    let olds : held old ≡ held before ++ held behind = held-append before (Open lower upper g ∷ behind) in
+    let olds : held old ≡ held before ++ held behind = held-append before (Open (gap_at lower upper g) ∷ behind) in
     let joined : (p : ℕ) → named' p ≡ (named p || is_named r sent p) = λ p.
     ap (λ l. is_named r l p) copies ∙ is_named-redact r es sent (held before ++ sent ++ held behind) p is
     ∙ is_named-append r (held before ++ sent) (held behind) p ∙ ap (λ x. x || is_named r (held behind) p) (is_named-append r (held before) sent p)
@@ -81,14 +84,14 @@ folds_page {E = E} {K = K} r es is limit b t front front' e lower upper g before
     let held_old : AllByRecursion (IsDue r es front' named) (held before ++ held behind) =
     subst (AllByRecursion (IsDue r es front' named)) olds (AllByRecursion-weaker (IsDue r es front named) (IsDue r es front' named) (λ c d. due_later r es front front' named c higher d) (held old) agrees.held_copies) in
     let members_due : AllByRecursion (IsDue r es front' named) members =
-    cond_due (IsDue r es front' named) r.lazy (map (shown r es e) (filter (λ v. r.member (r.key v) && is_sender r xs (r.key v)) (state_list r es g)))
-    (due (filter (λ v. r.member (r.key v) && is_sender r xs (r.key v)) (state_list r es g)) (AllByRecursion-filter (Contains es) (λ v. r.member (r.key v) && is_sender r xs (r.key v)) (state_list r es g) (contained_state r es g))) in
+    cond_due (IsDue r es front' named) r.lazy (map (shown r es e) (filter (λ v. key_is r.member (r.key v) && key_is (is_sender r xs) (r.key v)) (state_list r es g)))
+    (due (filter (λ v. key_is r.member (r.key v) && key_is (is_sender r xs) (r.key v)) (state_list r es g)) (AllByRecursion-filter (Contains es) (λ v. key_is r.member (r.key v) && key_is (is_sender r xs) (r.key v)) (state_list r es g) (contained_state r es g))) in
     record {
       timeline = record { whole = filled-redact r es sent is (pictured r es t) tl ∙ fits.whole; order = Rises-redact r es sent is t 0 t tl fits.order };
       state = state_redact r es t (is_owed r b t tl) (is_owed r b t (map (redact_entry r sent) tl)) (redact_by r sent) (put_new r members state) (λ c. redact_by-at r es sent is c)
           (λ k v. owed_redact r es sent b t tl k v is)
-          (state_page r es g t e (λ v. r.lazy && (r.member (r.key v) && is_sender r xs (r.key v))) members (is_owed r b t old) (is_owed r b t tl) state is g_t
-          (λ k. page_members r es r.lazy e g (λ v. r.member (r.key v) && is_sender r xs (r.key v)) k is)
+          (state_page r es g t e (λ v. r.lazy && (key_is r.member (r.key v) && key_is (is_sender r xs) (r.key v))) members (is_owed r b t old) (is_owed r b t tl) state is g_t
+          (λ k. page_members r es r.lazy e g (λ v. key_is r.member (r.key v) && key_is (is_sender r xs) (r.key v)) k is)
           (λ k v h. owed_late r b t lower upper g before behind k v h)
           (λ k v has owes. owed_page r es e b t lower mid upper g page.more xs before behind k v is has owes)
           agrees.state);
@@ -99,7 +102,7 @@ folds_page {E = E} {K = K} r es is limit b t front front' e lower upper g before
           (AllByRecursion-append (IsDue r es front' named) (held before) sent (AllByRecursion-front (IsDue r es front' named) (held before) (held behind) held_old) (due xs in_xs))
           (AllByRecursion-back (IsDue r es front' named) (held before) (held behind) held_old))));
       state_copies = λ k c. map_some (redact_by r sent) (IsDue r es front' named') (put_new r members state k) c
-          (λ x f. redacted x (or_some (IsDue r es front' named) (state k) (last_of (r.has k) members) x
+          (λ x f. redacted x (or_some (IsDue r es front' named) (state k) (last_of (has r k) members) x
           (λ y h. due_later r es front front' named y higher (agrees.state_copies k y h))
-          (λ y h. (last_of-some (IsDue r es front' named) (r.has k) members y members_due h).1) f));
+          (λ y h. (last_of-some (IsDue r es front' named) (has r k) members y members_due h).1) f));
     }

@@ -8,10 +8,10 @@ use Rattle.mx_window.specs.Lasts.{last_of, current}
 use Rattle.mx_window.proofs.Each.{AllByRecursion-map, AllByRecursion-append, AllByRecursion-weaker, AllByRecursion-both, AllByRecursion-filter, AllByRecursion-contained}
 use Rattle.mx_window.proofs.Intervals.{between-empty}
 use Rattle.mx_window.proofs.Lasts.{last_of-some, AllByRecursion-current}
-use Rattle.mx_folding.specs.Rooms.{Room, IsRoom, StaysSent}
-use Rattle.mx_folding.specs.Sections.{sendable, section, cut, is_limited}
+use Rattle.mx_folding.specs.Rooms.{Room, IsRoom, StaysSent, key_is, is_state, is_kept, has, sets_same}
+use Rattle.mx_folding.specs.Sections.{sendable, section, cut, is_limited, window}
 use Rattle.mx_folding.specs.Redactions.{is_named, is_redacted, shown, redact_by}
-use Rattle.mx_folding.specs.Parts.{is_sender, state_list, state_part, is_omitted, picks, picks_new, part_of}
+use Rattle.mx_folding.specs.Parts.{is_sender, state_list, state_part, is_omitted, picks, picks_new, part_of, gap_at}
 use Rattle.mx_folding.specs.Clients.{Entry, Held, Open, held, ClientRoom, empty_room, put_all, gap_if, redact_entry, with_part}
 use Rattle.mx_folding.specs.Agreement.{pictured, Rises, TimelineAgrees, StateAgrees, is_owed, IsCopy, IsDue, RoomAgrees}
 use Rattle.mx_folding.proofs.Redacting.{redact_by-at}
@@ -29,15 +29,15 @@ pub contained_sendable : {E K : Type 0} (r : Room E K) (es : List E) (front low 
 contained_sendable r es front low high = AllByRecursion-filter (Contains es) (r.sends front) (between r.at low high es) (contained_window r es low high)
 
 pub contained_state : {E K : Type 0} (r : Room E K) (es : List E) (p : ℕ) → AllByRecursion (Contains es) (state_list r es p)
-contained_state r es p = AllByRecursion-filter (Contains es) r.is_state (current r.same (between r.at 0 p es)) (AllByRecursion-current (Contains es) r.same (between r.at 0 p es) (contained_window r es 0 p))
+contained_state r es p = AllByRecursion-filter (Contains es) (is_state r) (current (sets_same r) (between r.at 0 p es)) (AllByRecursion-current (Contains es) (sets_same r) (between r.at 0 p es) (contained_window r es 0 p))
 
 contained_part : {E K : Type 0} (r : Room E K) (es : List E) (pick : E → Bool) (p : ℕ) → AllByRecursion (Contains es) (state_part r es pick p)
-contained_part r es pick p = AllByRecursion-filter (Contains es) pick (filter r.keeps (state_list r es p)) (AllByRecursion-filter (Contains es) r.keeps (state_list r es p) (contained_state r es p))
+contained_part r es pick p = AllByRecursion-filter (Contains es) pick (filter (is_kept r) (state_list r es p)) (AllByRecursion-filter (Contains es) (is_kept r) (state_list r es p) (contained_state r es p))
 
 pub held_within : {C : Type 0} (at : C → ℕ) (t low high : ℕ) (tl : List (Entry C)) → Rises at t low high tl → AllByRecursion (λ c. at c ≤ high) (held tl)
 held_within at t low high [] h = tt
 held_within at t low high (Held c ∷ tl) h = (Rises-order at t (at c) high tl h.1, held_within at t (at c) high tl h.1)
-held_within at t low high (Open lower upper front ∷ tl) h = held_within at t upper high tl h.3
+held_within at t low high (Open gap ∷ tl) h = held_within at t gap.upper high tl h.3
 
 -- whom the timeline names is redacted by a front that its copies lie at or before
 pub named_early : {E K : Type 0} (r : Room E K) (es : List E) (front s t : ℕ) (named : ℕ → Bool) (tl : List (Entry E)) → IsRoom r es → s ≤ t → Rises r.at s 0 s tl → AllByRecursion (IsDue r es front named) (held tl)
@@ -62,13 +62,13 @@ cut_between r es false q s t h k = (h, k)
 
 -- what the client puts of the section is the last after the state part's position
 reply_puts : {E K : Type 0} (r : Room E K) (es : List E) (after : Bool) (limit s t : ℕ) (k : K) → IsRoom r es → s ≤ t
-    → ◌≡◌ {A = Option E} (last_of (r.has k) (cond after [] (map (shown r es t) (section r es after limit t s t))))
-    (option_map (shown r es t) (last_of (r.has k) (between r.at (cond after t (cut r es after limit t s t)) t es)))
-reply_puts r es true limit s t k room up = ap (λ l. option_map (shown r es t) (last_of (r.has k) l)) (sym (between-empty r.at t t es (omega arith)))
+    → ◌≡◌ {A = Option E} (last_of (has r k) (cond after [] (map (shown r es t) (section r es t (window after limit s t)))))
+    (option_map (shown r es t) (last_of (has r k) (between r.at (cond after t (cut r es t (window after limit s t))) t es)))
+reply_puts r es true limit s t k room up = ap (λ l. option_map (shown r es t) (last_of (has r k) l)) (sym (between-empty r.at t t es (omega arith)))
 reply_puts r es false limit s t k room up =
-    let q : ℕ = cut r es false limit t s t in
-    shown_last r es t k (section r es false limit t s t) room
-    ∙ ap (option_map (shown r es t)) (ap (last_of (r.has k)) (section_sent r es false limit t s t room up).is ∙ section_last r es t q t k room (no_break r es limit t s t room up))
+    let q : ℕ = cut r es t (window false limit s t) in
+    shown_last r es t k (section r es t (window false limit s t)) room
+    ∙ ap (option_map (shown r es t)) (ap (last_of (has r k)) (section_sent r es false limit t s t room up).is ∙ section_last r es t q t k room (no_break r es limit t s t room up))
 
 puts_due : {E : Type 0} (P : E → Type 0) (after : Bool) (xs : List E) → AllByRecursion P xs → AllByRecursion P (cond after [] xs)
 puts_due P true xs h = tt
@@ -77,23 +77,23 @@ puts_due P false xs h = h
 -- the room after a part whose state part is picked so that what is held and has changed is sent, and what is owed and isn't sent was owed
 pub folds_part : {E K : Type 0} (r : Room E K) (es : List E) (after : Bool) (limit s t front front' b : ℕ) (pick : List E → E → Bool) (owed : K → E → Bool) (room : ClientRoom E K) → IsRoom r es → StaysSent r es s
     → s ≤ t → front ≤ front' → t ≤ front'
-    → ((k : K) (x h : E) → s < r.at x → ◌≡◌ {A = Option E} (room.state k) (Some h) → pick (section r es after limit t s t) x ≡ true)
-    → ((k : K) (v : E) → r.has k v ≡ true
-    → is_owed r b t (room.timeline ++ gap_if (is_limited r es after limit t s t) s (cut r es after limit t s t) t ++ map Held (map (shown r es t) (section r es after limit t s t))) k v ≡ true
-    → pick (section r es after limit t s t) v ≡ false → r.at v ≤ t → (r.at v ≤ s) × (owed k v ≡ true))
+    → ((k : K) (x h : E) → s < r.at x → ◌≡◌ {A = Option E} (room.state k) (Some h) → pick (section r es t (window after limit s t)) x ≡ true)
+    → ((k : K) (v : E) → has r k v ≡ true
+    → is_owed r b t (room.timeline ++ gap_if (is_limited r es t (window after limit s t)) (gap_at s (cut r es t (window after limit s t)) t) ++ map Held (map (shown r es t) (section r es t (window after limit s t)))) k v ≡ true
+    → pick (section r es t (window after limit s t)) v ≡ false → r.at v ≤ t → (r.at v ≤ s) × (owed k v ≡ true))
     → TimelineAgrees r es s room.timeline → StateAgrees r es s owed room.state
     → AllByRecursion (IsDue r es front (is_named r (held room.timeline))) (held room.timeline)
     → ((k : K) (c : E) → ◌≡◌ {A = Option E} (room.state k) (Some c) → IsDue r es front (is_named r (held room.timeline)) c)
-    → RoomAgrees r es b t front' (with_part r after s t (part_of r es after limit t s t pick) room)
+    → RoomAgrees r es b t front' (with_part r after s t (part_of r es t (window after limit s t) pick) room)
 folds_part {E = E} r es after limit s t front front' b pick owed room is stays up later upto first second timeline state held_due state_due =
-    let sec : List E = section r es after limit t s t in
-    let q : ℕ = cut r es after limit t s t in
-    let more : Bool = is_limited r es after limit t s t in
+    let sec : List E = section r es t (window after limit s t) in
+    let q : ℕ = cut r es t (window after limit s t) in
+    let more : Bool = is_limited r es t (window after limit s t) in
     let sent : List E = map (shown r es t) sec in
     let z : ℕ = cond after t q in
     let part : List E = map (shown r es t) (state_part r es (pick sec) z) in
     let puts : List E = cond after [] sent in
-    let tl : List (Entry E) = room.timeline ++ gap_if more s q t ++ map Held sent in
+    let tl : List (Entry E) = room.timeline ++ gap_if more (gap_at s q t) ++ map Held sent in
     let named : ℕ → Bool = is_named r (held room.timeline) in
     let named' : ℕ → Bool = is_named r (held (map (redact_entry r sent) tl)) in
     let facts : Sent r es t s t q sec more = section_sent r es after limit t s t is up in
@@ -127,31 +127,31 @@ folds_part {E = E} r es after limit s t front front' b pick owed room is stays u
           (AllByRecursion-append (IsDue r es front' named) (held room.timeline) sent
           (AllByRecursion-weaker (IsDue r es front named) (IsDue r es front' named) (λ c d. due_later r es front front' named c later d) (held room.timeline) held_due) (due sec in_sec))));
       state_copies = λ k c. map_some (redact_by r sent) (IsDue r es front' named') (put_all r puts (put_all r part room.state) k) c
-          (λ x e. redacted x (or_some (IsDue r es front' named) (last_of (r.has k) puts) (put_all r part room.state k) x
-          (λ y f. (last_of-some (IsDue r es front' named) (r.has k) puts y (puts_due (IsDue r es front' named) after sent (due sec in_sec)) f).1)
-          (λ y f. or_some (IsDue r es front' named) (last_of (r.has k) part) (room.state k) y
-          (λ w g. (last_of-some (IsDue r es front' named) (r.has k) part w (due (state_part r es (pick sec) z) (contained_part r es (pick sec) z)) g).1)
+          (λ x e. redacted x (or_some (IsDue r es front' named) (last_of (has r k) puts) (put_all r part room.state k) x
+          (λ y f. (last_of-some (IsDue r es front' named) (has r k) puts y (puts_due (IsDue r es front' named) after sent (due sec in_sec)) f).1)
+          (λ y f. or_some (IsDue r es front' named) (last_of (has r k) part) (room.state k) y
+          (λ w g. (last_of-some (IsDue r es front' named) (has r k) part w (due (state_part r es (pick sec) z) (contained_part r es (pick sec) z)) g).1)
           (λ w g. due_later r es front front' named w later (state_due k w g)) f) e));
     }
 
 -- a room after a later reply's part
 pub folds_reply : {E K : Type 0} → FoldsReply E K
 folds_reply {E = E} {K = K} r es is after limit from s t front front' b redundant heroes room stays first up later upto agrees =
-    let sec : List E = section r es after limit t s t in
+    let sec : List E = section r es t (window after limit s t) in
     folds_part r es after limit s t front front' b (picks r redundant b s from heroes) (is_owed r b s room.timeline) room is stays up later upto
-    (λ k x h new there. or_left (nat_lt from (r.at x)) (r.lazy && (r.member (r.key x) && ((is_sender r sec (r.key x) || heroes (r.key x)) && not (is_omitted r redundant b s x)))) (lt-ltb from (r.at x) (omega arith)))
-    (λ k v has owes unpicked within. owed_reply r es (is_limited r es after limit t s t) from b s (cut r es after limit t s t) t redundant heroes sec room.timeline k v is first up has owes unpicked)
+    (λ k x h new there. or_left (nat_lt from (r.at x)) (r.lazy && (key_is r.member (r.key x) && ((key_is (is_sender r sec) (r.key x) || key_is heroes (r.key x)) && not (is_omitted r redundant b s x)))) (lt-ltb from (r.at x) (omega arith)))
+    (λ k v has owes unpicked within. owed_reply r es (is_limited r es t (window after limit s t)) from b s (cut r es t (window after limit s t)) t redundant heroes sec room.timeline k v is first up has owes unpicked)
     agrees.timeline agrees.state agrees.held_copies agrees.state_copies
 
 -- an empty room after a new room's part
 pub folds_new : {E K : Type 0} → FoldsNew E K
 folds_new {E = E} {K = K} r es is after limit t front b heroes upto vacuous =
-    let sec : List E = section r es after limit t 0 t in
+    let sec : List E = section r es t (window after limit 0 t) in
     let none : between r.at 0 0 es ≡ [] = between-empty r.at 0 0 es (omega arith) in
     folds_part r es after limit 0 t 0 front b (picks_new r heroes) (λ k v. false) (empty_room E K) is
     (λ t' h. subst (AllByRecursion (λ e. r.sends t' e ≡ r.sends 0 e)) (sym none) tt) (omega arith) (omega arith) upto
     (λ k x h new there. absurd (cc (there)))
-    (λ k v has owes unpicked within. absurd (owed_new r es (is_limited r es after limit t 0 t) b (cut r es after limit t 0 t) t heroes sec k v is vacuous has within owes unpicked))
+    (λ k v has owes unpicked within. absurd (owed_new r es (is_limited r es t (window after limit 0 t)) b (cut r es t (window after limit 0 t)) t heroes sec k v is vacuous has within owes unpicked))
     (record { whole = sym (ap (λ l. map r.at (filter (r.sends 0) l)) none); order = omega arith })
     (record { right = λ k c e. absurd (cc (e)); enough = λ k v e owes. absurd (false≢true owes) })
     tt (λ k c e. absurd (cc (e)))

@@ -1,7 +1,7 @@
 -- When a client's room agrees with the picture of the room at its token: what one unlimited initial sync there shows.
 use Rattle.std.specs.Prelude.{◌≡◌, ℕ, ◌<◌, ◌≤◌, ◌⊎◌, Bool, true, false, not, ◌&&◌, ◌||◌, List, [], ◌∷◌, ◌++◌, map, Option, Some, option_map, nat_lt}
 use Rattle.std.specs.List.{list_any, AllByRecursion, Contains}
-use Rattle.mx_folding.specs.Rooms.{Room, state_at}
+use Rattle.mx_folding.specs.Rooms.{Room, state_at, mine}
 use Rattle.mx_folding.specs.Sections.{sendable}
 use Rattle.mx_folding.specs.Redactions.{is_named, is_redacted}
 use Rattle.mx_folding.specs.Parts.{is_sender}
@@ -15,13 +15,13 @@ pictured r es t low high = map r.at (sendable r es t low high)
 abbrev pub filled : {C : Type 0} → (C → ℕ) → (ℕ → ℕ → List ℕ) → List (Entry C) → List ℕ
 filled at picture [] = []
 filled at picture (Held c ∷ es) = at c ∷ filled at picture es
-filled at picture (Open lower upper front ∷ es) = picture lower upper ++ filled at picture es
+filled at picture (Open gap ∷ es) = picture gap.lower gap.upper ++ filled at picture es
 
 -- copies and gaps stand in order, above low and up to high, no two gaps overlap, and each was cut at a front up to t
 abbrev pub Rises : {C : Type 0} → (C → ℕ) → ℕ → ℕ → ℕ → List (Entry C) → Type 0
 Rises at t low high [] = low ≤ high
 Rises at t low high (Held c ∷ es) = (low < at c) × Rises at t (at c) high es
-Rises at t low high (Open lower upper front ∷ es) = (low ≤ lower) × (lower ≤ upper) × (front ≤ t) × Rises at t upper high es
+Rises at t low high (Open gap ∷ es) = (low ≤ gap.lower) × (gap.lower ≤ gap.upper) × (gap.front ≤ t) × Rises at t gap.upper high es
 
 -- with each open gap filled, the timeline is the picture's
 pub record TimelineAgrees {E K : Type 0} (r : Room E K) (es : List E) (t : ℕ) (timeline : List (Entry E)) : Type 0 where
@@ -35,14 +35,14 @@ pub record StateAgrees {E K : Type 0} (r : Room E K) (es : List E) (t : ℕ) (ow
 
 abbrev pub is_gap_before : {C : Type 0} → ℕ → Entry C → Bool
 is_gap_before p (Held c) = false
-is_gap_before p (Open lower upper front) = nat_lt front p
+is_gap_before p (Open gap) = nat_lt gap.front p
 
 -- which events of the state a client must hold: all, but with lazy members of the member events only the user's own,
 -- those of senders in the timeline, those after b where the user stayed joined from b to t, and those after the
 -- front of an open gap
 abbrev pub is_owed : {E K : Type 0} → Room E K → ℕ → ℕ → List (Entry E) → K → E → Bool
 is_owed r b t timeline k v =
-    not r.lazy || (not (r.member k) || (r.mine k || (is_sender r (held timeline) k
+    not r.lazy || (not (r.member k) || (mine r k || (is_sender r (held timeline) k
     || ((r.stayed b t && nat_lt b (r.at v)) || list_any (is_gap_before (r.at v)) timeline))))
 
 -- a copy of an event of the list, as it was or redacted

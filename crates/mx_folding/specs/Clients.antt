@@ -2,21 +2,20 @@
 use Rattle.std.specs.Prelude.{ℕ, Bool, cond, List, [], ◌∷◌, ◌++◌, map, Option, None, option_map}
 use Rattle.std.specs.Option.{option_or}
 use Rattle.mx_window.specs.Lasts.{last_of}
-use Rattle.mx_folding.specs.Rooms.{Room}
+use Rattle.mx_folding.specs.Rooms.{Room, has}
 use Rattle.mx_folding.specs.Redactions.{redact_by}
-use Rattle.mx_folding.specs.Parts.{Part, Page}
+use Rattle.mx_folding.specs.Parts.{Part, Page, Gap, gap_at}
 
--- an entry of a timeline: a copy of an event, or an open gap: after `lower` (the position of a sync token, or 0 for the
--- room's start), up to `upper`, cut at the position `front` of its page token
+-- an entry of a timeline: a copy of an event, or an open gap
 pub data Entry (C : Type 0) : Type 0 where
   Held : C → Entry C
-  Open : ℕ → ℕ → ℕ → Entry C
+  Open : Gap → Entry C
 
 -- the copies in a timeline
 abbrev pub held : {C : Type 0} → List (Entry C) → List C
 held [] = []
 held (Held c ∷ es) = c ∷ held es
-held (Open lower upper front ∷ es) = held es
+held (Open gap ∷ es) = held es
 
 pub record ClientRoom (E K : Type 0) : Type 0 where
   pub state : K → Option E
@@ -27,18 +26,18 @@ empty_room E K = record { state = λ k. None; timeline = [] }
 
 -- each event is put under its key
 abbrev pub put_all : {E K : Type 0} → Room E K → List E → (K → Option E) → K → Option E
-put_all r es state k = option_or (last_of (r.has k) es) (state k)
+put_all r es state k = option_or (last_of (has r k) es) (state k)
 
 -- each event is put under its key, where none is held there
 abbrev pub put_new : {E K : Type 0} → Room E K → List E → (K → Option E) → K → Option E
-put_new r es state k = option_or (state k) (last_of (r.has k) es)
+put_new r es state k = option_or (state k) (last_of (has r k) es)
 
-abbrev pub gap_if : {C : Type 0} → Bool → ℕ → ℕ → ℕ → List (Entry C)
-gap_if open_still low high front = cond open_still (Open low high front ∷ []) []
+abbrev pub gap_if : {C : Type 0} → Bool → Gap → List (Entry C)
+gap_if open_still gap = cond open_still (Open gap ∷ []) []
 
 abbrev pub redact_entry : {E K : Type 0} → Room E K → List E → Entry E → Entry E
 redact_entry r by (Held c) = Held (redact_by r by c)
-redact_entry r by (Open lower upper front) = Open lower upper front
+redact_entry r by (Open gap) = Open gap
 
 -- all copies of a room, after the redactions among new events
 abbrev pub redacted_room : {E K : Type 0} → Room E K → List E → ClientRoom E K → ClientRoom E K
@@ -51,12 +50,12 @@ redacted_room r by room = record {
 abbrev pub with_part : {E K : Type 0} → Room E K → Bool → ℕ → ℕ → Part E → ClientRoom E K → ClientRoom E K
 with_part r after s t part room = redacted_room r part.sent (record {
   state = put_all r (cond after [] part.sent) (put_all r part.state room.state);
-  timeline = room.timeline ++ gap_if part.limited s part.cut t ++ map Held part.sent;
+  timeline = room.timeline ++ gap_if part.limited (gap_at s part.cut t) ++ map Held part.sent;
 })
 
--- after a page for the gap (low, _] that was cut at g, and that stands between two halves of the timeline
-abbrev pub with_page : {E K : Type 0} → Room E K → ℕ → ℕ → List (Entry E) → List (Entry E) → Page E → (K → Option E) → ClientRoom E K
-with_page r low g before behind page state = redacted_room r page.sent (record {
+-- after a page for a gap that stands between two halves of the timeline
+abbrev pub with_page : {E K : Type 0} → Room E K → Gap → List (Entry E) → List (Entry E) → Page E → (K → Option E) → ClientRoom E K
+with_page r gap before behind page state = redacted_room r page.sent (record {
   state = put_new r page.members state;
-  timeline = before ++ gap_if page.more low page.end g ++ map Held page.sent ++ behind;
+  timeline = before ++ gap_if page.more (gap_at gap.lower page.end gap.front) ++ map Held page.sent ++ behind;
 })

@@ -10,4 +10,3 @@ pub mod Stories
 pub mod Chains
 pub mod Lists
 pub mod Longer
-pub mod Events

@@ -25,6 +25,7 @@ all_told same step told had =
 -- Under each id stands what the step makes of what was told of it and what was held there. Ids that are the same are
 -- the same to all others, and of an id that was neither told of nor held the step makes nothing.
 abbrev pub AllToldAt : Type 0 → Type 0 → Type 0 → Type 0
-AllToldAt I D A = (same : I → I → Bool) → ((i j k : I) → same i j ≡ true → same i k ≡ same j k) → (step : Option D → Option A → Option A) → step None None ≡ None
+AllToldAt I D A = (same : I → I → Bool) → ((i j k : I) → same i j ≡ true → same i k ≡ same j k) → (step : Option D → Option A → Option A)
+    → step None None ≡ None
     → (told : List (I × D)) (had : List (I × A)) → AreApart same told → AreApart same had → (i : I)
     → at_id same i (all_told same step told had) ≡ step (at_id same i told) (at_id same i had)

@@ -4,7 +4,7 @@ use Rattle.std.specs.Prelude.{ℕ, Bool, cond, not, ◌&&◌, List, length, nat_
 use Rattle.std.specs.List.{filter}
 use Rattle.mx_window.specs.Windows.{between, before_first}
 use Rattle.mx_window.specs.Lasts.{last_of, last_at, last}
-use Rattle.mx_folding.specs.Rooms.{Room}
+use Rattle.mx_folding.specs.Rooms.{Room, is_kept}
 
 -- the events of the window that may be sent
 abbrev pub sendable : {E K : Type 0} → Room E K → List E → ℕ → ℕ → ℕ → List E
@@ -12,19 +12,29 @@ sendable r es front low high = filter (r.sends front) (between r.at low high es)
 
 -- the last state event of the window that the state filter passes and that may not be sent; else the window's lower end
 abbrev pub break_at : {E K : Type 0} → Room E K → List E → ℕ → ℕ → ℕ → ℕ
-break_at r es front low high = last_at r.at low (last_of (λ e. r.keeps e && not (r.sends front e)) (between r.at low high es))
+break_at r es front low high = last_at r.at low (last_of (λ e. is_kept r e && not (r.sends front e)) (between r.at low high es))
+
+-- the window of a reply: with the state after the timeline or before it, and the timeline's limit
+pub record Window : Type 0 where
+  pub after : Bool
+  pub limit : ℕ
+  pub low : ℕ
+  pub high : ℕ
+
+abbrev pub window : Bool → ℕ → ℕ → ℕ → Window
+window after limit low high = record { after = after; limit = limit; low = low; high = high }
 
 -- the last `limit` events that may be sent, above the break; with the state after the timeline there is no break
-abbrev pub section : {E K : Type 0} → Room E K → List E → Bool → ℕ → ℕ → ℕ → ℕ → List E
-section r es after limit front low high = last limit (sendable r es front (cond after low (break_at r es front low high)) high)
+abbrev pub section : {E K : Type 0} → Room E K → List E → ℕ → Window → List E
+section r es front w = last w.limit (sendable r es front (cond w.after w.low (break_at r es front w.low w.high)) w.high)
 
 -- the position before the section's first event, or the window's end
-abbrev pub cut : {E K : Type 0} → Room E K → List E → Bool → ℕ → ℕ → ℕ → ℕ → ℕ
-cut r es after limit front low high = before_first r.at high (section r es after limit front low high)
+abbrev pub cut : {E K : Type 0} → Room E K → List E → ℕ → Window → ℕ
+cut r es front w = before_first r.at w.high (section r es front w)
 
 -- an event of the window that may be sent isn't in the section
-abbrev pub is_limited : {E K : Type 0} → Room E K → List E → Bool → ℕ → ℕ → ℕ → ℕ → Bool
-is_limited r es after limit front low high = nat_lt (length (section r es after limit front low high)) (length (sendable r es front low high))
+abbrev pub is_limited : {E K : Type 0} → Room E K → List E → ℕ → Window → Bool
+is_limited r es front w = nat_lt (length (section r es front w)) (length (sendable r es front w.low w.high))
 
 -- the events of a backward page, in order of position: the last `limit` within its bounds
 abbrev pub chunk : {E K : Type 0} → Room E K → List E → ℕ → ℕ → ℕ → ℕ → List E

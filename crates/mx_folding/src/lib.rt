@@ -8,16 +8,14 @@
 #![tactic(auto)]
 
 mod chain_laws;
-mod event_laws;
 mod list_laws;
 mod room_laws;
+mod visible_laws;
 
 pub use chain_laws::{chains_fold, folds_room};
-pub use event_laws::{
-    events_are_story, events_fold, same_paged, same_told, same_visible, stays_visible,
-};
 pub use list_laws::{all_told_at, same_page, same_part};
 pub use room_laws::{
-    folds_new, folds_nothing, folds_page, folds_reply, holds_all, holds_the_rest, holds_the_state,
+    folds_new, folds_nothing, folds_page, folds_reply, closed_timeline, open_timeline, whole_state,
     section_is_window, sent_is_visible,
 };
+pub use visible_laws::{same_visible, stays_visible};

@@ -1,6 +1,6 @@
 //! The folding law of one room, and what agreement says.
 
-ghost use Rattle.mx_folding.specs.Laws.{FoldsReply, FoldsNew, FoldsPage, FoldsNothing, HoldsTheRest, HoldsTheState, HoldsAll, SectionIsWindow, SentIsVisible};
+ghost use Rattle.mx_folding.specs.Laws.{FoldsReply, FoldsNew, FoldsPage, FoldsNothing, OpenTimeline, WholeState, ClosedTimeline, SectionIsWindow, SentIsVisible};
 
 /// A client's room that agrees with the picture at `s` agrees with that at `t`, after the part that a reply sends for
 /// the window (s, t] (Client-Server API, Syncing).
@@ -25,19 +25,19 @@ pub fn folds_nothing<E, K>()
 {}
 
 /// A timeline that agrees holds the picture's events in order, less those in the stretches of its open gaps.
-pub fn holds_the_rest<E, K>()
-    ensures { HoldsTheRest E K }
+pub fn open_timeline<E, K>()
+    ensures { OpenTimeline E K }
 {}
 
 /// With no open gap a timeline that agrees holds the picture's events in order.
-pub fn holds_all<E, K>()
-    ensures { HoldsAll E K }
+pub fn closed_timeline<E, K>()
+    ensures { ClosedTimeline E K }
 {}
 
 /// A state that agrees has the picture's events under the picture's keys: all without lazy members, and all but the
 /// member events with them (Client-Server API, Lazy-loading room members).
-pub fn holds_the_state<E, K>()
-    ensures { HoldsTheState E K }
+pub fn whole_state<E, K>()
+    ensures { WholeState E K }
 {}
 
 /// A section is what may be sent of the window above its cut, and the reply is limited exactly where something may be

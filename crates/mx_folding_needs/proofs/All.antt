@@ -8,8 +8,8 @@ use Rattle.mx_folding_needs.specs.Premises.{all_asked, StoryIf, TurnsIf, AllAske
 asked : {E K V D T : Type 0} (k : Tokens T) (g : Story E K V D T) → IsStory k g → StoryIf all_asked k g
 asked k g h = record {
   order = record { ascends = h.room.ascends; earlier = h.room.earlier };
-  keys = record { kept = h.room.kept; state = h.room.state; keyed = h.room.keyed; one_key = h.room.one_key };
-  redaction = record { red_at = h.room.red_at; red_has = h.room.red_has; red_names = h.room.red_names; red_wrote = h.room.red_wrote; red_red = h.room.red_red };
+  keys = record { keys = h.room.keys; kept = h.room.kept };
+  redaction = record { red_at = h.room.red_at; red_key = h.room.red_key; red_sender = h.room.red_sender; red_names = h.room.red_names; red_red = h.room.red_red };
   joined = record { stayed_less = h.room.stayed_less; stays = h.stays; kinds = h.kinds; stayed = h.stayed };
   rest = record { folds = h.rest.folds; still = h.rest.still };
 }
@@ -20,7 +20,7 @@ stated k g h =
     let y = h.keys in
     let d = h.redaction in
     let j = h.joined in
-    let room : IsRoom g.room g.events = record { ascends = o.ascends; kept = y.kept; state = y.state; keyed = y.keyed; one_key = y.one_key; red_at = d.red_at; red_has = d.red_has; red_names = d.red_names; red_wrote = d.red_wrote; red_red = d.red_red; earlier = o.earlier; stayed_less = j.stayed_less } in
+    let room : IsRoom g.room g.events = record { ascends = o.ascends; keys = y.keys; kept = y.kept; red_at = d.red_at; red_key = d.red_key; red_sender = d.red_sender; red_names = d.red_names; red_red = d.red_red; earlier = o.earlier; stayed_less = j.stayed_less } in
     record { room = room; stays = j.stays; kinds = j.kinds; stayed = j.stayed; rest = record { folds = h.rest.folds; still = h.rest.still } }
 
 turns_alike : {X E K V D T : Type 0} (k : Tokens T) (w : X → Story E K V D T) (c : Client X E K V T) (turns : List (Turn X E K T)) → AreTurns k w c turns ≡ TurnsIf all_asked k w c turns

@@ -10,14 +10,12 @@ use Rattle.mx_folding.specs.Chains.{Client, new_client, Turn, Synced, Paged, aft
 pub record Asked : Type 0 where
   pub ascends : Bool
   pub earlier : Bool
+  pub keys : Bool
   pub kept : Bool
-  pub state : Bool
-  pub keyed : Bool
-  pub one_key : Bool
   pub red_at : Bool
-  pub red_has : Bool
+  pub red_key : Bool
+  pub red_sender : Bool
   pub red_names : Bool
-  pub red_wrote : Bool
   pub red_red : Bool
   pub stayed_less : Bool
   pub stays : Bool
@@ -31,7 +29,10 @@ pub record Asked : Type 0 where
   pub gaps : Bool
 
 abbrev pub all_asked : Asked
-all_asked = record { ascends = true; earlier = true; kept = true; state = true; keyed = true; one_key = true; red_at = true; red_has = true; red_names = true; red_wrote = true; red_red = true; stayed_less = true; stays = true; kinds = true; stayed = true; folds = true; still = true; rises = true; next = true; past = true; gaps = true }
+all_asked = record {
+  ascends = true; earlier = true; keys = true; kept = true; red_at = true; red_key = true; red_sender = true; red_names = true; red_red = true;
+  stayed_less = true; stays = true; kinds = true; stayed = true; folds = true; still = true; rises = true; next = true; past = true; gaps = true;
+}
 
 abbrev pub If : Bool → Type 0 → Type 0
 If true A = A
@@ -42,16 +43,14 @@ pub record OrderIf {E K : Type 0} (a : Asked) (r : Room E K) (es : List E) : Typ
   pub earlier : If a.earlier (AllByRecursion (λ e. (p : ℕ) → r.names e ≡ Some p → p < r.at e) es)
 
 pub record KeysIf {E K : Type 0} (a : Asked) (r : Room E K) : Type 0 where
-  pub kept : If a.kept ((k : K) (e : E) → r.has k e ≡ true → r.keeps e ≡ true)
-  pub state : If a.state ((k : K) (e : E) → r.has k e ≡ true → r.is_state e ≡ true)
-  pub keyed : If a.keyed ((k : K) (e : E) → r.has k e ≡ true → r.key e ≡ k)
-  pub one_key : If a.one_key ((k : K) (e f : E) → r.has k e ≡ true → r.same e f ≡ r.has k f)
+  pub keys : If a.keys ((k l : K) → (r.same k l ≡ true) ↔ (k ≡ l))
+  pub kept : If a.kept ((k : K) (e : E) → r.key e ≡ Some k → r.keeps e ≡ r.passes k)
 
 pub record RedactionIf {E K : Type 0} (a : Asked) (r : Room E K) : Type 0 where
   pub red_at : If a.red_at ((e : E) → r.at (r.red e) ≡ r.at e)
-  pub red_has : If a.red_has ((k : K) (e : E) → r.has k (r.red e) ≡ r.has k e)
+  pub red_key : If a.red_key ((e : E) → r.key (r.red e) ≡ r.key e)
+  pub red_sender : If a.red_sender ((e : E) → r.sender (r.red e) ≡ r.sender e)
   pub red_names : If a.red_names ((e : E) → r.names (r.red e) ≡ r.names e)
-  pub red_wrote : If a.red_wrote ((k : K) (e : E) → r.wrote k (r.red e) ≡ r.wrote k e)
   pub red_red : If a.red_red ((e : E) → r.red (r.red e) ≡ r.red e)
 
 pub record JoinedIf {E K V D T : Type 0} (a : Asked) (g : Story E K V D T) : Type 0 where
@@ -60,30 +59,32 @@ pub record JoinedIf {E K V D T : Type 0} (a : Asked) (g : Story E K V D T) : Typ
   pub kinds : If a.kinds (AllByRecursion (λ e. g.is_own e ≡ true → is_some (g.membership e) ≡ true) g.events)
   pub stayed : If a.stayed ((b s : ℕ) → b ≤ s → g.room.stayed b s ≡ true → joined_in g s ≡ true)
 
-pub record RestIf {V D T : Type 0} (a : Asked) (k : Tokens T) (joined : ℕ → Bool) (rest : Rest V D T) : Type 0 where
-  pub folds : If a.folds ((i j : T) → k.before i j ≡ true → joined (k.event i) ≡ true → joined (k.event j) ≡ true → rest.changed (rest.view i) (rest.delta i j) ≡ rest.view j)
-  pub still : If a.still ((i j : T) → k.before i j ≡ true → joined (k.event i) ≡ true → joined (k.event j) ≡ true → rest.differs i j ≡ false → rest.view j ≡ rest.view i)
+pub record RestIf {V D T : Type 0} (a : Asked) (ts : Tokens T) (joined : ℕ → Bool) (rest : Rest V D T) : Type 0 where
+  pub folds : If a.folds ((i j : T) → ts.before i j ≡ true → joined (ts.event i) ≡ true → joined (ts.event j) ≡ true
+      → rest.changed (rest.view i) (rest.delta i j) ≡ rest.view j)
+  pub still : If a.still ((i j : T) → ts.before i j ≡ true → joined (ts.event i) ≡ true → joined (ts.event j) ≡ true
+      → rest.differs i j ≡ false → rest.view j ≡ rest.view i)
 
 -- `IsStory`, as far as it is asked
-pub record StoryIf {E K V D T : Type 0} (a : Asked) (k : Tokens T) (g : Story E K V D T) : Type 0 where
+pub record StoryIf {E K V D T : Type 0} (a : Asked) (ts : Tokens T) (g : Story E K V D T) : Type 0 where
   pub order : OrderIf a g.room g.events
   pub keys : KeysIf a g.room
   pub redaction : RedactionIf a g.room
   pub joined : JoinedIf a g
-  pub rest : RestIf a k (joined_in g) g.rest
+  pub rest : RestIf a ts (joined_in g) g.rest
 
 abbrev pub TurnIf : {X E K V T : Type 0} → Asked → Tokens T → Client X E K V T → Turn X E K T → Type 0
-TurnIf a k c (Synced ask heroes j) = If a.next (IsNext k c.token j)
-TurnIf {X = X} a k c (Paged limit e gaps) = If a.past (IsPast k c.token e) × If a.gaps ((x : X) → IsOpen (gaps x) (c.rooms x))
+TurnIf a ts c (Synced ask heroes j) = If a.next (IsNext ts c.token j)
+TurnIf {X = X} a ts c (Paged limit e gaps) = If a.past (IsPast ts c.token e) × If a.gaps ((x : X) → IsOpen (gaps x) (c.rooms x))
 
 abbrev pub TurnsIf : {X E K V D T : Type 0} → Asked → Tokens T → (X → Story E K V D T) → Client X E K V T → List (Turn X E K T) → Type 0
-TurnsIf a k w c [] = ⊤
-TurnsIf a k w c (turn ∷ turns) = TurnIf a k c turn × TurnsIf a k w (after_turn k w c turn) turns
+TurnsIf a ts w c [] = ⊤
+TurnsIf a ts w c (turn ∷ turns) = TurnIf a ts c turn × TurnsIf a ts w (after_turn ts w c turn) turns
 
 -- `ChainsFold`, with the premises that are asked
 abbrev pub ChainsFoldIf : Asked → Type 0 → Type 0 → Type 0 → Type 0 → Type 0 → Type 0 → Type 0
-ChainsFoldIf a X E K V D T = (k : Tokens T) → If a.rises (IsTokens k) → (w : X → Story E K V D T) → ((x : X) → StoryIf a k (w x)) → (turns : List (Turn X E K T))
-    → TurnsIf a k w (new_client X E K V T) turns → Agrees k w (after_turns k w (new_client X E K V T) turns)
+ChainsFoldIf a X E K V D T = (ts : Tokens T) → If a.rises (IsTokens ts) → (w : X → Story E K V D T) → ((x : X) → StoryIf a ts (w x))
+    → (turns : List (Turn X E K T)) → TurnsIf a ts w (new_client X E K V T) turns → Agrees ts w (after_turns ts w (new_client X E K V T) turns)
 
 -- with all premises it is the folding law
 abbrev pub AllAsked : Type 0 → Type 0 → Type 0 → Type 0 → Type 0 → Type 0 → Type 0
@@ -97,6 +98,6 @@ pub record Item : Type 0 where
   -- it was redacted
   pub bare : Bool
 
--- With these premises alone the law is false: of one room of such events, with state keys of type K.
-abbrev pub FailsWith : Asked → Type 0 → Type 0
-FailsWith a K = ChainsFoldIf a (Unit {0}) Item K ℕ ℕ ℕ → ⊥
+-- With these premises alone the law is false: of one room of such events, with two state keys.
+abbrev pub FailsWith : Asked → Type 0
+FailsWith a = ChainsFoldIf a (Unit {0}) Item Bool ℕ ℕ ℕ → ⊥

@@ -1,5 +1,5 @@
 -- Each step of one seat leads from a good world to a good one, and what the other seats know stays true.
-use Rattle.std.proofs.Common.{◌≡◌, ◌≢◌, ℕ, suc, ◌+◌, ◌≤◌, ◌⊎◌, Bool, true, eqb, List, [], ◌∷◌, Some, None, length, get_or, set, append-nil, refl, sym, ap, ◌∙◌, subst, inl, inr, arith}
+use Rattle.std.proofs.Common.{◌<◌, ◌≡◌, ◌≢◌, ℕ, suc, ◌+◌, ◌≤◌, ◌⊎◌, Bool, true, eqb, List, [], ◌∷◌, Some, None, length, get_or, set, append-nil, refl, sym, ap, ◌∙◌, subst, inl, inr, arith}
 use Rattle.std.proofs.lemmas.Bool.{cases_eq}
 use mathlib.Core.Option as maybe
 use lib.Seq.{set-get_or}
@@ -7,10 +7,14 @@ use prog.Atomic.{either}
 use Rattle.atomic_table.specs.Table.{step, Act, keeps, takes, carried_after, homes_after, Valid}
 use Rattle.atomic_table.proofs.Lists.{exchanged}
 use Rattle.mx_core.specs.declared.history.Stored.{Stored}
-use Rattle.mx_core.specs.History.{own, is_stored, stored_count, Begins, Law, keeps_law}
+use Rattle.mx_core.specs.History.{own, is_stored, stored_count, AreOf, Begins, Law, keeps_law}
+use Rattle.mx_core.specs.Limits.{most_writers, most_held}
 use Rattle.mx_core.specs.State.{State, block_of, count_of}
-use Rattle.mx_core.proofs.Owns.{begins_own, keeps_law_front}
-use Rattle.mx_core.proofs.Reached.{stored_apart, held_in, reached_counts}
+use Rattle.mx_core.specs.Orderly.{top}
+use Rattle.mx_core.proofs.Histories.{begins_self}
+use Rattle.mx_core.proofs.Orders.{runs_are_orderly, reached_above}
+use Rattle.mx_core.proofs.Owns.{begins_own, keeps_law_front, are_of_front}
+use Rattle.mx_core.proofs.Reached.{stored_apart, held_in, reached_counts, reached_writers}
 use Rattle.mx_lanes.specs.Held.{Held}
 use Rattle.mx_front.specs.declared.board.Key.{Key}
 use Rattle.mx_front.specs.declared.view.Role.{Role}
@@ -18,23 +22,11 @@ use Rattle.mx_front.specs.declared.view.Role.TheVariants.{Reader, Maker, Pen}
 use Rattle.mx_front.specs.declared.view.Turn.{Turn}
 use Rattle.mx_front.specs.declared.view.Turn.TheVariants.{Idle, Waits, Has}
 use Rattle.mx_front.specs.declared.view.View.{View}
-use Rattle.mx_front.specs.World.{Slot, Line, Core, World, words_of, IsHome, Kept, Standing, Stocked, Good, Waiting, Having, Queued, PenOf, Plays, Knowing, Knows}
+use Rattle.mx_front.specs.Queue.{Line, IsHome, Waiting}
+use Rattle.mx_front.specs.World.{Slot, Core, World, words_of, Kept, Standing, Stocked, Good, InTurn, Queued, PenOf, Plays, Knowing, Knows}
 use Rattle.mx_front.specs.Told.{Sat, claimed, came, looking, looked, read_next, longer, learned}
+use Rattle.mx_front.proofs.Queues.{turn_cases, claimed_line, other_ticket, came_line, left_line}
 use Rattle.mx_front.proofs.Worlds.{change, change_here, change_else, passed_le, held_few, begins_longer, begins_one}
-
--- whether a turn is that of a ticket which is awaited
-abbrev awaited : Turn → ℕ
-awaited Idle = 0
-awaited (Waits t) = suc t
-awaited (Has t) = 0
-
-turn_cases : (turn : Turn) (n : ℕ) → (turn ≡ Waits n) ⊎ (turn ≢ Waits n)
-turn_cases Idle n = inr (λ e. let h : 0 ≡ suc n = ap awaited e in omega arith)
-turn_cases (Waits t) n = elim (cases_eq t n) [
-  | inl is ↦ inl (ap (λ i. let x : Turn = Waits i in x) is)
-  | inr not ↦ inr (λ e. let h : suc t ≡ suc n = ap awaited e in not (omega arith))
-]
-turn_cases (Has t) n = inr (λ e. let h : 0 ≡ suc n = ap awaited e in omega arith)
 
 -- the room that is set apart after a turn
 abbrev pub room_after : Role → (ℕ → ℕ) → List ℕ → ℕ → ℕ
@@ -54,51 +46,30 @@ module _ {I : Type 0} where
   at_home lanes h room (maybe.some (Some b)) home s = record { book = b; is = refl; stands = s }
 
   -- what a seat knows of the queue, when another seat takes a ticket, takes the book, changes what it stands for, or gives it back
-  claimed_others : (lanes : ℕ) (l : Line I) (h : List (Stored I)) (room : ℕ → ℕ) (j id old : ℕ) (all : List (Stored I)) (spares : List ℕ) (turn : Turn) → l.ticket ≡ old
+  claimed_others : (lanes : ℕ) (l : Line (Held I)) (h : List (Stored I)) (room : ℕ → ℕ) (j id old : ℕ) (all : List (Stored I)) (spares : List ℕ) (turn : Turn) → l.ticket ≡ old
       → Queued lanes l h room j all spares turn → Queued lanes (record l { ticket = old + 1; ticket_of = change l.ticket_of old id }) h room j all spares turn
   claimed_others lanes l h room j id old all spares Idle e q = tt
-  claimed_others lanes l h room j id old all spares (Waits t) e q = record {
-    from = q.from;
-    below = omega (arith, q.below, e);
-    mine = change_else l.ticket_of old id t (λ same. omega (arith, q.below, e, same)) ∙ q.mine;
-    home = q.home;
-  }
-  claimed_others lanes l h room j id old all spares (Has t) e q = record {
-    turn = q.turn;
-    below = omega (arith, q.below, e);
-    mine = change_else l.ticket_of old id t (λ same. omega (arith, q.below, e, same)) ∙ q.mine;
-    out = q.out;
-    whole = q.whole;
-    rooms = q.rooms;
-    count = q.count;
-  }
+  claimed_others lanes l h room j id old all spares (Waits t) e q = claimed_line l j id old (Waits t) e q
+  claimed_others lanes l h room j id old all spares (Has t) e q = record { queue = claimed_line l j id old (Has t) e q.queue; whole = q.whole; rooms = q.rooms; count = q.count }
 
-  other_ticket : (l : Line I) (j id t : ℕ) → j ≢ id → l.ticket_of l.serving ≡ id → l.ticket_of t ≡ j → t ≢ l.serving
-  other_ticket l j id t ne is mine same = ne (sym mine ∙ ap l.ticket_of same ∙ is)
-
-  came_others : (lanes : ℕ) (l : Line I) (h : List (Stored I)) (room : ℕ → ℕ) (j id : ℕ) (all : List (Stored I)) (spares : List ℕ) (turn : Turn) → j ≢ id → l.ticket_of l.serving ≡ id
+  came_others : (lanes : ℕ) (l : Line (Held I)) (h : List (Stored I)) (room : ℕ → ℕ) (j id : ℕ) (all : List (Stored I)) (spares : List ℕ) (turn : Turn) → j ≢ id → l.ticket_of l.serving ≡ id
       → Queued lanes l h room j all spares turn → Queued lanes (record l { slot = maybe.none }) h room j all spares turn
   came_others lanes l h room j id all spares Idle ne is q = tt
-  came_others lanes l h room j id all spares (Waits t) ne is q = record { from = q.from; below = q.below; mine = q.mine; home = λ e. absurd (other_ticket l j id t ne is q.mine e) }
-  came_others lanes l h room j id all spares (Has t) ne is q = absurd (other_ticket l j id t ne is q.mine q.turn)
+  came_others lanes l h room j id all spares (Waits t) ne is q = came_line l j id (Waits t) ne is q
+  came_others lanes l h room j id all spares (Has t) ne is q = absurd (other_ticket l j id t ne is q.queue.mine q.queue.turn)
 
-  pub changed_others : (lanes : ℕ) (l : Line I) (h g : List (Stored I)) (room rooms : ℕ → ℕ) (j id : ℕ) (all : List (Stored I)) (spares : List ℕ) (turn : Turn) → j ≢ id → l.ticket_of l.serving ≡ id
+  pub changed_others : (lanes : ℕ) (l : Line (Held I)) (h g : List (Stored I)) (room rooms : ℕ → ℕ) (j id : ℕ) (all : List (Stored I)) (spares : List ℕ) (turn : Turn) → j ≢ id → l.ticket_of l.serving ≡ id
       → Queued lanes l h room j all spares turn → Queued lanes l g rooms j all spares turn
   changed_others lanes l h g room rooms j id all spares Idle ne is q = tt
   changed_others lanes l h g room rooms j id all spares (Waits t) ne is q = q
-  changed_others lanes l h g room rooms j id all spares (Has t) ne is q = absurd (other_ticket l j id t ne is q.mine q.turn)
+  changed_others lanes l h g room rooms j id all spares (Has t) ne is q = absurd (other_ticket l j id t ne is q.queue.mine q.queue.turn)
 
-  pub left_others : (lanes : ℕ) (l : Line I) (h : List (Stored I)) (room rooms : ℕ → ℕ) (j id t : ℕ) (b : Held I) (all : List (Stored I)) (spares : List ℕ) (turn : Turn) → j ≢ id
+  pub left_others : (lanes : ℕ) (l : Line (Held I)) (h : List (Stored I)) (room rooms : ℕ → ℕ) (j id t : ℕ) (b : Held I) (all : List (Stored I)) (spares : List ℕ) (turn : Turn) → j ≢ id
       → l.ticket_of l.serving ≡ id → t ≡ l.serving → Queued lanes l h room j all spares turn
       → Queued lanes (record l { serving = t + 1; slot = maybe.some (Some b) }) h rooms j all spares turn
   left_others lanes l h room rooms j id t b all spares Idle ne is at q = tt
-  left_others lanes l h room rooms j id t b all spares (Waits u) ne is at q = record {
-    from = let other : u ≢ l.serving = other_ticket l j id u ne is q.mine in omega (arith, q.from, at);
-    below = q.below;
-    mine = q.mine;
-    home = λ e. tt;
-  }
-  left_others lanes l h room rooms j id t b all spares (Has u) ne is at q = absurd (other_ticket l j id u ne is q.mine q.turn)
+  left_others lanes l h room rooms j id t b all spares (Waits u) ne is at q = left_line l j id t b (Waits u) ne is at q
+  left_others lanes l h room rooms j id t b all spares (Has u) ne is at q = absurd (other_ticket l j id u ne is q.queue.mine q.queue.turn)
 
 module _ {I : Type 0} (key : Key) where
   pub pen_is : (w : Core I) (id : ℕ) (v : View I) (k : ℕ) → Knowing key w id v → v.who ≡ Pen k → PenOf key w id v.own v.block v.reserve v.read v.fresh k
@@ -126,6 +97,7 @@ module _ {I : Type 0} (law : Law I) (key : Key) where
     pub others : (j : ℕ) (x : View I) → j ≢ id → Knows key w j x → Knows key to j x
     pub words : set (words_of w) i n ≡ words_of to
     pub homes : homes_after (w.line.slot ∷ []) c act ≡ to.line.slot ∷ []
+    pub grows : Begins w.core.state.history to.core.state.history
     pub tells : told (view, carried_after c act)
 
   -- the world stays
@@ -140,11 +112,16 @@ module _ {I : Type 0} (law : Law I) (key : Key) where
     others = λ j x ne q. q;
     words = set-get_or (words_of w) i 0;
     homes = refl;
+    grows = begins_self w.core.state.history;
     tells = tells;
   }
 
-  pub few_drawn : (s : State I) (over : ℕ → Bool) → Kept law key s over → s.next ≤ key.stop + 4096
-  few_drawn s over kept = omega (arith, kept.bound, passed_le over 16)
+  pub few_drawn : (s : State I) (over : ℕ → Bool) → Kept law key s over → s.next ≤ key.stop + most_held
+  few_drawn s over kept = omega (arith, kept.bound, passed_le over most_writers)
+
+  -- what begins the history is stored by the stream's writers
+  of_writers : (s : State I) (over : ℕ → Bool) → Kept law key s over → (n : ℕ) (h : List (Stored I)) → key.writers ≤ n → Begins h s.history → AreOf n h
+  of_writers s over kept n h le b = are_of_front (length s.held) n h s.history (omega (arith, kept.writers, le)) b (reached_writers s kept.reached)
 
   -- a try to take a ticket
   pub claims : (slots : ℕ) (w : World I) (id old : ℕ) (v : View I) (c : List (ℕ × Slot I)) → Good law key w → Knows key w id v
@@ -164,7 +141,7 @@ module _ {I : Type 0} (law : Law I) (key : Key) where
           stocked = good.stocked;
         };
         mine = record {
-          core = record { sees = k.core.sees; hears = k.core.hears; reads = k.core.reads; plays = k.core.plays };
+          core = record { bound = k.core.bound; sees = k.core.sees; hears = k.core.hears; reads = k.core.reads; plays = k.core.plays };
           queued = record {
             from = good.ordered;
             below = omega (arith, hit);
@@ -175,6 +152,7 @@ module _ {I : Type 0} (law : Law I) (key : Key) where
         others = λ j x ne q. record { core = q.core; queued = claimed_others key.writers w.line w.core.state.history w.core.room j id old x.all x.spares x.turn hit q.queued };
         words = refl;
         homes = refl;
+        grows = begins_self w.core.state.history;
         tells = (λ e. refl, λ miss. absurd (miss hit));
       })
       (λ miss. stays w id v c 0 (claimed (step slots 0 old (old + 1) maybe.none) (v, c) w.line.ticket) good k (λ e. absurd (miss e), λ e. refl))
@@ -203,12 +181,13 @@ module _ {I : Type 0} (law : Law I) (key : Key) where
               stocked = tt;
             };
             mine = record {
-              core = record { sees = k.core.sees; hears = k.core.hears; reads = k.core.reads; plays = k.core.plays };
-              queued = record { turn = refl; below = q.below; mine = q.mine; out = refl; whole = refl; rooms = b.stands.rooms; count = b.stands.count };
+              core = record { bound = k.core.bound; sees = k.core.sees; hears = k.core.hears; reads = k.core.reads; plays = k.core.plays };
+              queued = record { queue = record { turn = refl; below = q.below; mine = q.mine; out = refl }; whole = refl; rooms = b.stands.rooms; count = b.stands.count };
             };
             others = λ j x ne q'. record { core = q'.core; queued = came_others key.writers w.line w.core.state.history w.core.room j id x.all x.spares x.turn ne q.mine q'.queued };
             words = refl;
             homes = refl;
+            grows = begins_self w.core.state.history;
             tells = (
               λ e. record {
                 book = b.book;
@@ -225,7 +204,7 @@ module _ {I : Type 0} (law : Law I) (key : Key) where
   pub looks : (slots t : ℕ) (w : World I) (id : ℕ) (v : View I) (c : List (ℕ × Slot I)) → v.turn ≡ Has t → Good law key w → Knows key w id v
       → Goes w id c 3 (length w.core.state.history) (looked law (step slots 3 0 0 maybe.none) (v, c) (length w.core.state.history))
   looks slots t w id v c is good k =
-      let q : Having key.writers w.line w.core.state.history w.core.room id v.all v.spares t = turn_is key w id v (Has t) k is in
+      let q : InTurn key.writers w.line w.core.state.history w.core.room id v.all v.spares t = turn_is key w id v (Has t) k is in
       let s = w.core.state in
       let kept = good.kept in record {
         to = w;
@@ -234,19 +213,22 @@ module _ {I : Type 0} (law : Law I) (key : Key) where
         valid = tt;
         good = good;
         mine = record {
-          core = record { sees = ([], sym q.whole ∙ sym (append-nil v.all)); hears = k.core.hears; reads = k.core.reads; plays = k.core.plays };
+          core = record { bound = k.core.bound; sees = ([], sym q.whole ∙ sym (append-nil v.all)); hears = k.core.hears; reads = k.core.reads; plays = k.core.plays };
           queued = k.queued;
         };
         others = λ j x ne o. o;
         words = refl;
         homes = refl;
+        grows = begins_self w.core.state.history;
         tells = (
           refl,
           record {
             count = ap length (sym q.whole);
             begins = subst (Begins v.seen) (sym q.whole) k.core.sees;
             lawful = ap (keeps_law law []) q.whole ∙ kept.lawful;
-            reads = subst (λ h. v.read ≤ stored_count h + 4096) (sym q.whole) (omega (arith, k.core.reads, reached_counts s kept.reached, held_few s.held kept.blocks, kept.writers, kept.few));
+            orderly = runs_are_orderly s kept.reached v.all ([], sym q.whole ∙ sym (append-nil v.all));
+            writers = subst (AreOf v.writers) (sym q.whole) (of_writers s w.core.over kept v.writers s.history k.core.bound ([], sym (append-nil s.history)));
+            reads = subst (λ h. v.read ≤ stored_count h + most_held) (sym q.whole) (omega (arith, k.core.reads, reached_counts s kept.reached, held_few s.held kept.blocks, kept.writers, kept.few));
             pen = λ pk who. let p = pen_is key w.core id v pk k.core who in record {
               own_is = ap (λ h. own h pk) q.whole ∙ sym p.own_is;
               block = λ b e.
@@ -258,6 +240,7 @@ module _ {I : Type 0} (law : Law I) (key : Key) where
                     omega (arith, there.2, few_drawn s w.core.over kept, kept.small),
                     omega (arith, least, p.within),
                   );
+              above = λ b e. subst (λ l. top 0 l < b.first) (sym p.own_is) (reached_above s kept.reached pk b (p.block ∙ e));
               apart = λ b at e low high. ap (λ h. is_stored h at) q.whole ∙ stored_apart s kept.reached pk b at (p.block ∙ e) low high;
             };
           },
@@ -276,6 +259,7 @@ module _ {I : Type 0} (law : Law I) (key : Key) where
         good = good;
         mine = record {
           core = record {
+            bound = k.core.bound;
             sees = k.core.sees;
             hears = k.core.hears;
             reads = omega arith;
@@ -287,6 +271,7 @@ module _ {I : Type 0} (law : Law I) (key : Key) where
         others = λ j x ne q. q;
         words = refl;
         homes = refl;
+        grows = begins_self w.core.state.history;
         tells = (refl, k.core.reads);
       }
 
@@ -302,6 +287,8 @@ module _ {I : Type 0} (law : Law I) (key : Key) where
         record {
           begins = begins_one v.seen v.heard h k.core.sees k.core.hears;
           lawful = keeps_law_front law (longer v.seen v.heard) h (begins_longer v.seen v.heard h k.core.sees k.core.hears) good.kept.lawful;
+          orderly = runs_are_orderly w.core.state good.kept.reached (longer v.seen v.heard) (begins_longer v.seen v.heard h k.core.sees k.core.hears);
+          writers = of_writers w.core.state w.core.over good.kept v.writers (longer v.seen v.heard) k.core.bound (begins_longer v.seen v.heard h k.core.sees k.core.hears);
           seen = λ pk who. of_pen v.seen pk k.core.sees who;
           heard = λ pk who. of_pen v.heard pk k.core.hears who;
         },

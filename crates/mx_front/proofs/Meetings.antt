@@ -1,11 +1,14 @@
 -- What a draw asks, and what two seats that meet have seen, over plain values.
-use Rattle.std.proofs.Common.{◌≡◌, ℕ, ◌+◌, ◌%◌, ◌^◌, ◌<◌, ◌≤◌, true, List, [], ◌∷◌, ◌++◌, None, length, length-append, append-nil, leb, refl, sym, ap, ap₂, ◌∙◌, subst, inl, inr, arith, le-leb}
-use Rattle.std.proofs.lemmas.Bool.{cases_Bool}
+use Rattle.std.proofs.Common.{◌≡◌, ℕ, ◌+◌, ◌%◌, ◌^◌, ◌<◌, ◌≤◌, true, List, [], ◌∷◌, ◌++◌, None, length, length-append, append-nil, leb, max, min, refl, sym, ap, ap₂, ◌∙◌, subst, inl, inr, arith, le-leb}
+use Rattle.std.proofs.lemmas.Bool.{cases_Bool, leb-true, leb-false}
 use mathlib.Core.Option as maybe
 use Rattle.atomic_table.specs.Table.{step, Allows}
-use Rattle.mx_core.specs.History.{own, Begins, Law, keeps_law}
+use Rattle.mx_core.specs.Orderly.{IsOrderly}
+use Rattle.mx_core.proofs.Orders.{begins_orderly}
+use Rattle.mx_core.specs.History.{own, AreOf, Begins, Law, keeps_law}
+use Rattle.mx_core.specs.Limits.{most_drawn}
 use Rattle.mx_core.proofs.Histories.{begins_self}
-use Rattle.mx_core.proofs.Owns.{begins_own}
+use Rattle.mx_core.proofs.Owns.{begins_own, are_of_front}
 use Rattle.mx_front.specs.declared.board.Key.{Key}
 use Rattle.mx_front.specs.declared.view.Role.TheVariants.{Pen}
 use Rattle.mx_front.specs.declared.view.Turn.TheVariants.{Idle}
@@ -42,12 +45,19 @@ module _ {A : Type 0} where
   begins_same : (xs ys : List A) → Begins xs ys → Begins ys xs → xs ≡ ys
   begins_same xs ys a b = sym (a.1 ∙ no_rest xs a.0 (omega (arith, ap length a.1, ap length b.1, length-append xs a.0, length-append ys b.0)))
 
+  -- how long it is
+  pub longer_count : (xs ys : List A) → length (longer xs ys) ≡ max (length xs) (length ys)
+  longer_count xs ys = elim (cases_Bool (leb (length ys) (length xs))) [
+    | inl is ↦ let l : length ys ≤ length xs = leb-true (length ys) (length xs) is in rw is (omega (arith, l))
+    | inr not ↦ let l : length xs < length ys = leb-false (length ys) (length xs) not in rw not (omega (arith, l))
+  ]
+
   longer_of : (P : List A → Type 0) (xs ys : List A) → P xs → P ys → P (longer xs ys)
   longer_of P xs ys p q = elim (cases_Bool (leb (length ys) (length xs))) [ inl is ↦ rw is p | inr not ↦ rw not q ]
 
 module _ {I : Type 0} (law : Law I) where
   -- a pen that has read the word below the stop may draw
-  pub drawable : (key : Key) (slots id n pk r : ℕ) (m m1 : Sat I) → m1 ≡ (record m.0 { read = r; fresh = true }, m.1) → m.0.who ≡ Pen pk → m.0.block ≡ None → r < key.stop → 0 < n → n ≤ 256 → n ≤ m.0.reserve
+  pub drawable : (key : Key) (slots id n pk r : ℕ) (m m1 : Sat I) → m1 ≡ (record m.0 { read = r; fresh = true }, m.1) → m.0.who ≡ Pen pk → m.0.block ≡ None → r < key.stop → 0 < n → n ≤ most_drawn → n ≤ m.0.reserve
       → Allows (Ruled law key) slots id m1 2 (λ x. (x + n) % 2 ^ 64) (drew (step slots 2 n 0 maybe.none) m1)
   drawable key slots id n pk r m m1 is who free below pos small room =
       subst (λ (y : Sat I). Allows (Ruled law key) slots id y 2 (λ x. (x + n) % 2 ^ 64) (drew (step slots 2 n 0 maybe.none) y)) (sym is)
@@ -71,6 +81,9 @@ module _ {I : Type 0} (law : Law I) where
           first = begins_first xs ys b;
           second = begins_second xs ys b;
           lawful = ap (keeps_law law []) (sym (longer_again xs ys)) ∙ l.lawful;
+          orderly = subst IsOrderly (longer_again xs ys) l.orderly;
+          fewer = omega arith;
+          writers = subst (AreOf (min m.0.writers u.0.writers)) (longer_again xs ys) l.writers;
           read = refl;
           looks = refl;
         };
@@ -82,7 +95,10 @@ module _ {I : Type 0} (law : Law I) where
   notes k v u complete who pen pass l =
       let b : Begins (shorter u.seen v.seen) (longer u.seen v.seen) = begins_turned u.seen v.seen l.begins in
       let before : Begins (own u.seen k) v.own = l.heard k who in
-      let noted : Begins v.seen (longer u.seen v.seen) = begins_second u.seen v.seen b in record {
+      let noted : Begins v.seen (longer u.seen v.seen) = begins_second u.seen v.seen b in
+      let few = min v.writers u.writers in
+      let least = min u.writers (min v.writers u.writers) in
+      let within : few ≤ least = omega arith in record {
         first = begins_first u.seen v.seen b;
         second = noted;
         before = before;
@@ -90,6 +106,12 @@ module _ {I : Type 0} (law : Law I) where
             (λ c. begins_same (own u.seen k) v.own before (subst (λ z. Begins z (own u.seen k)) complete (begins_own v.seen u.seen k c)))
             (λ c. complete) noted;
         lawful = longer_of (λ z. keeps_law law [] z ≡ true) u.seen v.seen pass pen;
+        orderly = longer_of (λ z. IsOrderly z) u.seen v.seen (begins_orderly u.seen (longer v.seen u.seen) (begins_second v.seen u.seen l.begins) l.orderly)
+            (begins_orderly v.seen (longer v.seen u.seen) (begins_first v.seen u.seen l.begins) l.orderly);
+        fewer = omega arith;
+        writers = longer_of (λ z. AreOf (min u.writers (min v.writers u.writers)) z) u.seen v.seen
+            (are_of_front few least u.seen (longer v.seen u.seen) within (begins_second v.seen u.seen l.begins) l.writers)
+            (are_of_front few least v.seen (longer v.seen u.seen) within (begins_first v.seen u.seen l.begins) l.writers);
         read = refl;
         looks = refl;
       }
@@ -101,3 +123,11 @@ module _ {I : Type 0} (law : Law I) where
       let u : t.0 ≡ reader_of (hearing p.0 q.0) = ap (λ (y : Sat I). y.0) split ∙ ap reader_of (ap (λ (y : Sat I). y.0) told.0 ∙ e) in
       let is : q2.0 ≡ both q.0 (reader_of (hearing p.0 q.0)) = ap (λ (y : Sat I). y.0) joined ∙ ap₂ both (ap (λ (y : Sat I). y.0) kept) u in
       subst (Notes law k p.0 q.0) (sym is) (notes k p.0 q.0 complete who pen pass (subst (Learned law) e told.1))
+
+-- what a pass has seen after a note is the longer of the two lists
+module _ {I : Type 0} where
+  pub noted_longer : (p p1 p2 q q1 q2 s t : Sat I) → q1 ≡ (q.0, q.1) → s ≡ (reader_of q.0, []) → p1 ≡ (hearing p.0 s.0, p.1) → p2 ≡ p1 → t ≡ (reader_of p2.0, []) → q2 ≡ (both q1.0 t.0, q1.1) → q2.0.seen ≡ longer q.0.seen p.0.seen
+  noted_longer p p1 p2 q q1 q2 s t kept parted heard told split joined =
+      let e : p1.0 ≡ hearing p.0 q.0 = ap (λ (y : Sat I). y.0) heard ∙ ap (λ (y : Sat I). hearing p.0 y.0) parted in
+      let u : t.0 ≡ reader_of (hearing p.0 q.0) = ap (λ (y : Sat I). y.0) split ∙ ap reader_of (ap (λ (y : Sat I). y.0) told ∙ e) in
+      ap (λ (v : View I). v.seen) (ap (λ (y : Sat I). y.0) joined ∙ ap₂ both (ap (λ (y : Sat I). y.0) kept) u)

@@ -3,11 +3,12 @@ use Rattle.std.proofs.Common.{◌≡◌, ◌≢◌, ℕ, ◌+◌, ◌-◌, ◌%�
 use Rattle.std.proofs.lemmas.Bool.{cases_Bool, cases_eq}
 use mathlib.Core.Option as maybe
 use Rattle.atomic_table.specs.Table.{step, keeps, gives}
+use Rattle.mx_core.specs.Limits.{most_drawn, most_held}
 use Rattle.mx_core.specs.declared.history.Stored.{Stored}
 use Rattle.mx_core.specs.History.{is_stored, Law}
 use Rattle.mx_core.specs.State.{State, count_of, drawn, stored}
 use Rattle.mx_core.proofs.Blocks.{block_at-here, block_at-else}
-use Rattle.mx_core.proofs.Histories.{begins_more}
+use Rattle.mx_core.proofs.Histories.{begins_more, begins_self}
 use Rattle.mx_core.proofs.Owns.{own-here, own-else, keeps_law_more}
 use Rattle.mx_core.proofs.Reached.{reached_drawn, reached_stored, stored_in, reached_length}
 use Rattle.mx_lanes.specs.Held.{Held, StandsFor}
@@ -17,7 +18,8 @@ use Rattle.mx_front.specs.declared.view.Role.{Role}
 use Rattle.mx_front.specs.declared.view.Role.TheVariants.{Reader, Maker, Pen}
 use Rattle.mx_front.specs.declared.view.Turn.TheVariants.{Has}
 use Rattle.mx_front.specs.declared.view.View.{View}
-use Rattle.mx_front.specs.World.{Slot, Line, Core, World, Stocked, Good, Having, Queued, PenOf, Plays, Knows}
+use Rattle.mx_front.specs.Queue.{Line}
+use Rattle.mx_front.specs.World.{Slot, Core, World, Stocked, Good, InTurn, Queued, PenOf, Plays, Knows}
 use Rattle.mx_front.specs.Told.{block_at, drawing, drew, storing, put, reserve_in, leaving, left}
 use Rattle.mx_front.proofs.Worlds.{change, change_here, change_else, passing, stored_own, length_own}
 use Rattle.mx_front.proofs.Goes.{Goes, room_after, changed_others, left_others, pen_is, turn_is, plays_on, few_drawn}
@@ -71,14 +73,14 @@ module _ {I : Type 0} (key : Key) where
 
 module _ {I : Type 0} (law : Law I) (key : Key) where
   -- a block is drawn
-  pub draws : (slots n pk : ℕ) (w : World I) (id : ℕ) (v : View I) (c : List (ℕ × Slot I)) → v.who ≡ Pen pk → v.block ≡ None → v.fresh ≡ true → v.read < key.stop → 0 < n → n ≤ 256 → n ≤ v.reserve
+  pub draws : (slots n pk : ℕ) (w : World I) (id : ℕ) (v : View I) (c : List (ℕ × Slot I)) → v.who ≡ Pen pk → v.block ≡ None → v.fresh ≡ true → v.read < key.stop → 0 < n → n ≤ most_drawn → n ≤ v.reserve
       → Good law key w → Knows key w id v
       → Goes law key w id c 2 ((w.core.state.next + n) % 2 ^ 64) (drew (step slots 2 n 0 maybe.none) (v, c) w.core.state.next)
   draws slots n pk w id v c who free fresh below pos small room good k =
       let p = pen_is key w.core id v pk k.core who in
       let s = w.core.state in
       let kept = good.kept in
-      let bound : s.next ≤ key.stop + 4096 = few_drawn law key s w.core.over kept in
+      let bound : s.next ≤ key.stop + most_held = few_drawn law key s w.core.over kept in
       let inside : pk < length s.held = omega (arith, p.made, good.most, kept.writers) in
       let not : w.core.over pk ≡ false = elim (cases_Bool (w.core.over pk)) [ inl is ↦ absurd (omega (arith, p.value fresh is, below)) | inr not ↦ not ] in
       let next = passing w.core.over key.stop pk s.next n (omega (arith, p.made, good.most, kept.few)) small not kept.bound kept.over_is in
@@ -120,6 +122,7 @@ module _ {I : Type 0} (law : Law I) (key : Key) where
         };
         mine = record {
           core = record {
+            bound = k.core.bound;
             sees = k.core.sees;
             hears = k.core.hears;
             reads = omega arith;
@@ -137,6 +140,7 @@ module _ {I : Type 0} (law : Law I) (key : Key) where
         };
         others = λ j x ne q. record {
           core = record {
+            bound = q.core.bound;
             sees = q.core.sees;
             hears = q.core.hears;
             reads = omega (arith, q.core.reads);
@@ -155,6 +159,7 @@ module _ {I : Type 0} (law : Law I) (key : Key) where
         };
         words = ap (λ m. w.line.ticket ∷ w.line.serving ∷ m ∷ length s.history ∷ []) (mod-eq_of_lt (omega (arith, bound, small, kept.small)));
         homes = refl;
+        grows = begins_self s.history;
         tells = (
           refl,
           k.core.reads,
@@ -175,7 +180,7 @@ module _ {I : Type 0} (law : Law I) (key : Key) where
   puts slots t n w id v x b turn who block lawful stands count lanes spent others good k =
       let pk : ℕ = x.writer in
       let p = pen_is key w.core id v pk k.core who in
-      let q : Having key.writers w.line w.core.state.history w.core.room id v.all v.spares t = turn_is key w id v (Has t) k turn in
+      let q : InTurn key.writers w.line w.core.state.history w.core.room id v.all v.spares t = turn_is key w id v (Has t) k turn in
       let s = w.core.state in
       let kept = good.kept in
       let inside : pk < length s.held = omega (arith, p.made, good.most, kept.writers) in
@@ -184,7 +189,7 @@ module _ {I : Type 0} (law : Law I) (key : Key) where
       let room' = change w.core.room pk (v.reserve - length x.items) in
       let to : Core I = record w.core { state = s'; room = room' } in
       let u : View I = storing v x b in
-      let served : w.line.ticket_of w.line.serving ≡ id = ap w.line.ticket_of (sym q.turn) ∙ q.mine in
+      let served : w.line.ticket_of w.line.serving ≡ id = ap w.line.ticket_of (sym q.queue.turn) ∙ q.queue.mine in
       let more : v.all ++ x ∷ [] ≡ s.history ++ x ∷ [] = ap (λ l. l ++ x ∷ []) q.whole in
       let fits : length x.items ≤ v.reserve = omega (arith, p.within, ap count_of block) in record {
         to = record w { core = to };
@@ -219,10 +224,11 @@ module _ {I : Type 0} (law : Law I) (key : Key) where
                 over = m.over;
                 room = change_else w.core.room pk (v.reserve - length x.items) i other ∙ m.room;
               };
-          stocked = subst (Stocked key.writers s'.history room') (sym q.out) tt;
+          stocked = subst (Stocked key.writers s'.history room') (sym q.queue.out) tt;
         };
         mine = record {
           core = record {
+            bound = k.core.bound;
             sees = ([], sym more ∙ sym (append-nil (v.all ++ x ∷ [])));
             hears = begins_more v.heard s.history (x ∷ []) k.core.hears;
             reads = k.core.reads;
@@ -237,10 +243,7 @@ module _ {I : Type 0} (law : Law I) (key : Key) where
             });
           };
           queued = subst (Queued key.writers w.line s'.history room' id u.all u.spares) (sym turn) (record {
-            turn = q.turn;
-            below = q.below;
-            mine = q.mine;
-            out = q.out;
+            queue = q.queue;
             whole = more;
             rooms = λ i. elim (cases_eq i pk) [
               | inl same ↦
@@ -256,6 +259,7 @@ module _ {I : Type 0} (law : Law I) (key : Key) where
         };
         others = λ j y ne o. record {
           core = record {
+            bound = o.core.bound;
             sees = begins_more y.seen s.history (x ∷ []) o.core.sees;
             hears = begins_more y.heard s.history (x ∷ []) o.core.hears;
             reads = o.core.reads;
@@ -274,6 +278,7 @@ module _ {I : Type 0} (law : Law I) (key : Key) where
         };
         words = ap (λ m. w.line.ticket ∷ w.line.serving ∷ s.next ∷ m ∷ []) (count ∙ omega (arith, ap length q.whole, length-append s.history (x ∷ [])));
         homes = refl;
+        grows = (x ∷ [], refl);
         tells = λ y d hand at stood. λ i. (storing v (next_one v.all x y b stands (subst (StandsFor (v.all ++ y ∷ [])) (sym (in_hand b d hand)) stood) i) (in_hand b d hand i), (0, Some b) ∷ []);
       }
 
@@ -282,19 +287,19 @@ module _ {I : Type 0} (law : Law I) (key : Key) where
       → ((i : ℕ) → get_or v.spares i 0 ≤ get_or b.spare i 0) → Good law key w → Knows key w id v
       → Goes law key w id ((0, Some b) ∷ []) 1 (t + 1) (left (step slots 1 (t + 1) 0 maybe.none) (v, (0, Some b) ∷ []) (t + 1))
   leaves slots t w id v b turn stands lanes spares good k =
-      let q : Having key.writers w.line w.core.state.history w.core.room id v.all v.spares t = turn_is key w id v (Has t) k turn in
+      let q : InTurn key.writers w.line w.core.state.history w.core.room id v.all v.spares t = turn_is key w id v (Has t) k turn in
       let h = w.core.state.history in
-      let served : w.line.ticket_of w.line.serving ≡ id = ap w.line.ticket_of (sym q.turn) ∙ q.mine in
+      let served : w.line.ticket_of w.line.serving ≡ id = ap w.line.ticket_of (sym q.queue.turn) ∙ q.queue.mine in
       let rooms : (i : ℕ) → w.core.room i ≤ get_or b.spare i 0 = λ i. omega (arith, q.rooms i, spares i) in
       let room' = room_after v.who w.core.room b.spare in
       let to : Core I = record w.core { room = room' } in
-      let l : Line I = record w.line { serving = t + 1; slot = maybe.some (Some b) } in record {
+      let l : Line (Held I) = record w.line { serving = t + 1; slot = maybe.some (Some b) } in record {
         to = record { line = l; core = to };
         view = leaving v b;
         act = gives;
         valid = tt;
         good = record {
-          ordered = omega (arith, q.below);
+          ordered = omega (arith, q.queue.below);
           ready = λ e. tt;
           kept = good.kept;
           most = good.most;
@@ -311,11 +316,12 @@ module _ {I : Type 0} (law : Law I) (key : Key) where
           };
         };
         mine = record {
-          core = record { sees = k.core.sees; hears = k.core.hears; reads = k.core.reads; plays = left_plays key w.core id v b.spare rooms v.who k.core.plays };
+          core = record { bound = k.core.bound; sees = k.core.sees; hears = k.core.hears; reads = k.core.reads; plays = left_plays key w.core id v b.spare rooms v.who k.core.plays };
           queued = tt;
         };
         others = λ j y ne o. record {
           core = record {
+            bound = o.core.bound;
             sees = o.core.sees;
             hears = o.core.hears;
             reads = o.core.reads;
@@ -330,9 +336,10 @@ module _ {I : Type 0} (law : Law I) (key : Key) where
                   value = r.value;
                 }) y.who o.core.plays;
           };
-          queued = left_others key.writers w.line h w.core.room room' j id t b y.all y.spares y.turn ne served q.turn o.queued;
+          queued = left_others key.writers w.line h w.core.room room' j id t b y.all y.spares y.turn ne served q.queue.turn o.queued;
         };
         words = refl;
         homes = refl;
+        grows = begins_self h;
         tells = λ d hand. λ i. (leaving v (in_hand b d hand i), []);
       }

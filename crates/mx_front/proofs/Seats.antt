@@ -5,6 +5,8 @@ use Rattle.atomic_table.specs.Table.{step, Allows, rest}
 use Rattle.mx_core.specs.declared.history.Stored.{Stored}
 use Rattle.mx_core.specs.Front.{IsFront}
 use Rattle.mx_core.specs.History.{own, is_stored, Law}
+use Rattle.mx_core.specs.Orderly.{top}
+use Rattle.mx_core.proofs.Orders.{orderly_more}
 use Rattle.mx_core.proofs.Owns.{own-here, keeps_law_more}
 use Rattle.mx_lanes.specs.Held.{Held, StandsFor, Keeps, OthersKeep, spare_of}
 use Rattle.mx_lanes.specs.Parts.{Taken, IsUpTo}
@@ -53,8 +55,10 @@ module _ {I : Type 0} (law : Law I) where
         below = e.below;
         begins = l.begins;
         lawful = l.lawful;
+        orderly = l.orderly;
+        writers = l.writers;
         reads = l.reads;
-        pen = λ k who. let o = l.pen k who in record { own_is = o.own_is; block = o.block; apart = o.apart };
+        pen = λ k who. let o = l.pen k who in record { own_is = o.own_is; block = o.block; above = o.above; apart = o.apart };
       }
 
   -- a pen with a block may store it
@@ -155,6 +159,8 @@ module _ {I : Type 0} (law : Law I) where
           block = refl;
           front = st.front;
           lawful = keeps_law_more law s.all x s.lawful (ap (λ l. law x.writer l x.first x.items) o.own_is ∙ lawful);
+          orderly = orderly_more s.all x s.orderly (λ p low high. o.apart (record { first = x.first; count = length x.items }) p block low high)
+              (subst (λ l. top 0 l < x.first) (sym o.own_is) (o.above (record { first = x.first; count = length x.items }) block));
           reserve =
               let r = s.room x.writer who in
               let now : u.reserve ≡ get_or st.book.spare x.writer 0 = ap (λ w. reserve_in w (v.reserve - length x.items) st.book.spare) who in
@@ -254,7 +260,7 @@ module _ {I : Type 0} where
       let is : m2 ≡ (leaving (seizing v t s.all s.book.spare) g.new, []) = left g.new (ap (λ (y : Sat I). y.1) g.is) ∙ ap (λ (y : Sat I). let z : Sat I = (leaving y.0 g.new, []) in z) went.0 in
       subst (HasLooked law v) (sym is) (record {
         rests = (refl, refl);
-        looks = record { begins = s.begins; looks = refl; lawful = s.lawful; read = refl; reads = s.reads };
+        looks = record { begins = s.begins; looks = refl; lawful = s.lawful; orderly = s.orderly; fewer = omega arith; writers = s.writers; read = refl; reads = s.reads };
       })
 
   -- the items up to the front
@@ -274,3 +280,24 @@ module _ {I : Type 0} where
   pub roomy : (v : View I) (t k n : ℕ) (m m1 m2 : Sat I) → Entered v t m → v.who ≡ Pen k → Grown m m1 → ((b : Held I) → m1.1 ≡ holding b → m2 ≡ (leaving m1.0 b, []))
       → {T E : Type 0} (r : Result T E) → OnOk r ((b : Held I) → m1.1 ≡ holding b → n ≤ get_or b.spare k 0) → OnOk r (n ≤ m2.0.reserve)
   roomy v t k n m m1 m2 e who g left r room = on_ok_weaker r (λ all. room_left v t k n m m1 m2 e who g all left) room
+
+  -- ---- how many stores a seat has seen
+
+  pub counted_store : (v : View I) (x : Stored I) (f : ℕ) (m : Sat I) → Stores v x f m → (h : List (Stored I)) (n : ℕ) → h ≡ v.all → n ≡ length (h ++ x ∷ []) → n ≡ length m.0.seen
+  counted_store v x f m st h n was is = is ∙ (ap (λ l. length (l ++ x ∷ [])) was ∙ sym (ap (λ (y : Sat I). length y.0.seen) st.is))
+
+  pub counted_left : (v : View I) (x : Stored I) (f n : ℕ) (m m' : Sat I) → Stores v x f m → ((b : Held I) → m.1 ≡ holding b → m' ≡ (leaving m.0 b, [])) → n ≡ length m.0.seen → n ≡ length m'.0.seen
+  counted_left v x f n m m' st left is = is ∙ sym (ap (λ (y : Sat I). length y.0.seen) (left st.book (ap (λ (y : Sat I). y.1) st.is)))
+
+  pub counted_look : (n : ℕ) (m m1 m2 : Sat I) → Grown m m1 → ((b : Held I) → m1.1 ≡ holding b → m2 ≡ (leaving m1.0 b, [])) → n ≡ length m.0.seen → n ≡ length m2.0.seen
+  counted_look n m m1 m2 g left is = is ∙ sym (ap (λ (y : Sat I). length y.0.seen) (left g.new (ap (λ (y : Sat I). y.1) g.is)) ∙ ap (λ (y : Sat I). length y.0.seen) g.is)
+
+  -- a book that stays as it is
+  pub kept_book : (law : Law I) (v : View I) (t : ℕ) (m : Sat I) → Seized law v t m → Grown m m
+  kept_book law v t m s = record {
+    old = s.book;
+    new = s.book;
+    hand = ap (λ (y : Sat I). y.1) s.is;
+    is = s.is ∙ sym (ap (λ (y : Sat I). let z : Sat I = (y.0, holding s.book) in z) s.is);
+    keeps = record { history = refl; front = refl; lanes = refl; spare = λ lane. omega arith };
+  }

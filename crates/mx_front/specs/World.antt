@@ -6,6 +6,7 @@ use Rattle.atomic_table.specs.Table as table
 use Rattle.mx_core.specs.declared.history.Stored.{Stored}
 use Rattle.mx_core.specs.declared.machine.Block.{Block}
 use Rattle.mx_core.specs.History.{own, Begins, Law, keeps_law}
+use Rattle.mx_core.specs.Limits.{most_writers, most_drawn, last_stop}
 use Rattle.mx_core.specs.Runs.{IsReached}
 use Rattle.mx_core.specs.State.{State, block_of, count_of}
 use Rattle.mx_lanes.specs.Held.{Held, StandsFor}
@@ -15,17 +16,11 @@ use Rattle.mx_front.specs.declared.view.Role.TheVariants.{Reader, Maker, Pen}
 use Rattle.mx_front.specs.declared.view.Turn.{Turn}
 use Rattle.mx_front.specs.declared.view.Turn.TheVariants.{Idle, Waits, Has}
 use Rattle.mx_front.specs.declared.view.View.{View}
+use Rattle.mx_front.specs.Queue.{Line, IsHome, Waiting, Having}
 
 -- what the slot holds: the book
 abbrev pub Slot : Type 0 → Type 0
 Slot I = Option (Held I)
-
--- the queue for the book: the next ticket, the ticket that is served, the slot, and the seat of each ticket
-pub record Line (I : Type 0) : Type 0 where
-  pub ticket : ℕ
-  pub serving : ℕ
-  pub slot : maybe.Option (Slot I)
-  pub ticket_of : ℕ → ℕ
 
 -- the machine of positions and its pens: the seat of each pen, the seat that makes pens and how many it has made, the pens whose last draw ended at the stop or past it, and the room that is set apart for each pen
 pub record Core (I : Type 0) : Type 0 where
@@ -37,7 +32,7 @@ pub record Core (I : Type 0) : Type 0 where
   pub room : ℕ → ℕ
 
 pub record World (I : Type 0) : Type 0 where
-  pub line : Line I
+  pub line : Line (Held I)
   pub core : Core I
 
 abbrev pub words_of : {I : Type 0} → World I → List ℕ
@@ -52,20 +47,16 @@ abbrev pub passed : (ℕ → Bool) → ℕ → ℕ
 passed over zero = 0
 passed over (suc n) = one_if (over n) + passed over n
 
-abbrev pub IsHome : {A : Type 0} → maybe.Option A → Type 0
-IsHome maybe.none = ⊥
-IsHome (maybe.some x) = Unit {0}
-
 -- the machine is reached by a run, its blocks are short, and each draw that ended at the stop or past it was its writer's last
 pub record Kept {I : Type 0} (law : Law I) (key : Key) (s : State I) (over : ℕ → Bool) : Type 0 where
   pub reached : IsReached s
   pub limit : s.limit ≡ 2 ^ 48
   pub writers : length s.held ≡ key.writers
-  pub few : key.writers ≤ 16
-  pub small : key.stop ≤ 281474976694272
-  pub bound : s.next ≤ key.stop + 256 * passed over 16
+  pub few : key.writers ≤ most_writers
+  pub small : key.stop ≤ last_stop
+  pub bound : s.next ≤ key.stop + most_drawn * passed over most_writers
   pub over_is : (k : ℕ) → over k ≡ true → key.stop ≤ s.next
-  pub blocks : (k : ℕ) → count_of (block_of s k) ≤ 256
+  pub blocks : (k : ℕ) → count_of (block_of s k) ≤ most_drawn
   pub lawful : keeps_law law [] s.history ≡ true
 
 -- a writer whose pen isn't made yet
@@ -96,27 +87,17 @@ pub record Good {I : Type 0} (law : Law I) (key : Key) (w : World I) : Type 0 wh
   pub unmade : (k : ℕ) → w.core.made ≤ k → Unmade w.core k
   pub stocked : Stocked key.writers w.core.state.history w.core.room w.line.slot
 
--- a seat waits with a ticket: the book is at home when it is served
-pub record Waiting {I : Type 0} (l : Line I) (j t : ℕ) : Type 0 where
-  pub from : l.serving ≤ t
-  pub below : t < l.ticket
-  pub mine : l.ticket_of t ≡ j
-  pub home : t ≡ l.serving → IsHome l.slot
-
 -- a seat has the turn, with the book: it knows the history and the room of each lane
-pub record Having {I : Type 0} (lanes : ℕ) (l : Line I) (h : List (Stored I)) (room : ℕ → ℕ) (j : ℕ) (all : List (Stored I)) (spares : List ℕ) (t : ℕ) : Type 0 where
-  pub turn : t ≡ l.serving
-  pub below : t < l.ticket
-  pub mine : l.ticket_of t ≡ j
-  pub out : l.slot ≡ maybe.none
+pub record InTurn {I : Type 0} (lanes : ℕ) (l : Line (Held I)) (h : List (Stored I)) (room : ℕ → ℕ) (j : ℕ) (all : List (Stored I)) (spares : List ℕ) (t : ℕ) : Type 0 where
+  pub queue : Having l j t
   pub whole : all ≡ h
   pub rooms : (k : ℕ) → room k ≤ slice_index spares k
   pub count : length spares ≡ lanes
 
-abbrev pub Queued : {I : Type 0} → ℕ → Line I → List (Stored I) → (ℕ → ℕ) → ℕ → List (Stored I) → List ℕ → Turn → Type 0
+abbrev pub Queued : {I : Type 0} → ℕ → Line (Held I) → List (Stored I) → (ℕ → ℕ) → ℕ → List (Stored I) → List ℕ → Turn → Type 0
 Queued lanes l h room j all spares Idle = Unit {0}
 Queued lanes l h room j all spares (Waits t) = Waiting l j t
-Queued lanes l h room j all spares (Has t) = Having lanes l h room j all spares t
+Queued lanes l h room j all spares (Has t) = InTurn lanes l h room j all spares t
 
 -- a seat is the pen of a writer: it knows all stores of the writer, its block and its room, and has read the stop where the writer is past it
 pub record PenOf {I : Type 0} (key : Key) (w : Core I) (j : ℕ) (mine : List (Stored I)) (held : Option Block) (reserve read : ℕ) (fresh : Bool) (k : ℕ) : Type 0 where
@@ -133,8 +114,9 @@ Plays key w j mine held reserve read fresh Reader = Unit {0}
 Plays key w j mine held reserve read fresh (Maker k) = (w.maker ≡ j) × (w.made ≡ k)
 Plays key w j mine held reserve read fresh (Pen k) = PenOf key w j mine held reserve read fresh k
 
--- what a seat has seen and heard of begins the history, and what it has read of the word was there
+-- a seat knows a bound on the number of writers, what it has seen and heard of begins the history, and what it has read of the word was there
 pub record Knowing {I : Type 0} (key : Key) (w : Core I) (j : ℕ) (v : View I) : Type 0 where
+  pub bound : key.writers ≤ v.writers
   pub sees : Begins v.seen w.state.history
   pub hears : Begins v.heard w.state.history
   pub reads : v.read ≤ w.state.next
@@ -152,9 +134,9 @@ pub record Ruled {I : Type 0} (law : Law I) (key : Key) (s : table.State (Slot I
   pub good : Good law key world
   pub knows : (j : ℕ) (v : View I) → get_elem? s.views j ≡ maybe.some v → Knows key world j v
 
--- a seat that knows nothing, and the first seat
-abbrev pub blank : {I : Type 0} → Role → View I
-blank who = record { turn = Idle; who = who; block = None; reserve = 0; read = 0; fresh = false; looks = 0; of = record {}; seen = []; heard = []; own = []; all = []; spares = [] }
+-- a seat that knows a bound on the number of writers alone, and the first seat
+abbrev pub blank : {I : Type 0} → ℕ → Role → View I
+blank writers who = record { turn = Idle; who = who; block = None; reserve = 0; read = 0; fresh = false; looks = 0; writers = writers; of = record {}; seen = []; heard = []; own = []; all = []; spares = [] }
 
-abbrev pub opening_view : {I : Type 0} → View I
-opening_view = blank (Maker 0)
+abbrev pub opening_view : {I : Type 0} → Key → View I
+opening_view key = blank key.writers (Maker 0)

@@ -1,7 +1,10 @@
 //! Pens and passes, and what a draw answers.
 
-ghost use Rattle.std.specs.Prelude.{◌≡◌, [], true};
-ghost use Rattle.mx_core.specs.History.{own, keeps_law};
+ghost use Rattle.std.specs.Prelude.{◌≡◌, [], true, length};
+ghost use Rattle.mx_core.specs.Orderly.{IsOrderly};
+ghost use Rattle.mx_core.proofs.Orders.{IsOrderly-prop};
+ghost use Rattle.mx_core.specs.History.{own, AreOf, keeps_law};
+ghost use Rattle.mx_core.proofs.Owns.{AreOf-prop};
 ghost use Rattle.mx_front.specs.declared.view.Role.TheVariants as roles;
 ghost use Rattle.mx_front.specs.declared.view.Turn.TheVariants.{Idle};
 
@@ -30,16 +33,23 @@ pub struct Full {
 pub struct Pen<I: Placed> {
     pub(crate) seat: Place<I>,
     pub(crate) writer: u8,
+    pub(crate) stores: u64,
     ghost rests: { (seat.me.0.turn ≡ Idle) × (seat.me.1 ≡ []) },
     ghost writes: { seat.me.0.who ≡ roles.Pen writer },
     ghost complete: { own seat.me.0.seen writer ≡ seat.me.0.own },
     ghost lawful: { keeps_law I.lawful [] seat.me.0.seen ≡ true },
+    ghost orderly: { IsOrderly seat.me.0.seen } by { IsOrderly-prop seat.me.0.seen },
+    ghost counted: { stores ≡ length seat.me.0.seen },
 }
 
 /// A reader of a stream. What it has seen is the beginning of the stream's history.
 #[derive(Drop)]
 pub struct Pass<I: Placed> {
     pub(crate) seat: Place<I>,
+    pub(crate) stores: u64,
     ghost rests: { (seat.me.0.turn ≡ Idle) × (seat.me.1 ≡ []) },
     ghost lawful: { keeps_law I.lawful [] seat.me.0.seen ≡ true },
+    ghost orderly: { IsOrderly seat.me.0.seen } by { IsOrderly-prop seat.me.0.seen },
+    ghost counted: { stores ≡ length seat.me.0.seen },
+    ghost of_writers: { AreOf seat.me.0.writers seat.me.0.seen } by { AreOf-prop seat.me.0.writers seat.me.0.seen },
 }

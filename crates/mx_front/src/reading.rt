@@ -1,6 +1,6 @@
 //! What a pass does: it looks at the stores, meets another pass, and notes what a pen has seen.
 
-ghost use Rattle.std.specs.Prelude.{◌≡◌, IfOk, IsOk};
+ghost use Rattle.std.specs.Prelude.{◌≡◌, IfOk, IsOk, length};
 ghost use Rattle.mx_front.specs.Calls.{Looks, Shows, Meets, Notes};
 ghost use Rattle.mx_front.specs.Shown.{place_of, known, number, place_of_pen, reads, seen_by, place_of_pass};
 ghost use Rattle.mx_front.specs.Told.{hearing, reader_of};
@@ -31,14 +31,25 @@ impl<I: Placed + Copied> Stream<I> {
         ensures seen { Looks I.lawful (reads pass.old) (reads pass.new) }
         ensures parts { IfOk result (λ parts. Shows (seen_by pass.new) parts) }
     {
-        let ticket = self.seize(rt, &mut pass.seat);
+        let owed = self.seize(rt, &mut pass.seat, &mut pass.stores);
         let parts = self.read_parts(alloc, &mut pass.seat);
-        self.leave(&mut pass.seat, ticket);
+        self.leave(&mut pass.seat, owed);
         parts
     }
 }
 
 impl<I: Placed + Drop> Stream<I> {
+    /// A look that answers no items: the pass has then seen the stores at this moment, and its number of looks rises by
+    /// one. Waits for its turn at the stream, and takes no memory.
+    pub fn glance<R: Wait>(&self, rt: &R, pass: &mut Pass<I>)
+        requires stream { place_of_pass pass.old ≡ place_of self.now }
+        ensures stream { place_of_pass pass.new ≡ place_of_pass pass.old }
+        ensures seen { Looks I.lawful (reads pass.old) (reads pass.new) }
+    {
+        let owed = self.seize(rt, &mut pass.seat, &mut pass.stores);
+        self.leave(&mut pass.seat, owed);
+    }
+
     /// A new pass that has seen what a pass of this stream has seen, and has kept its value of `next`. Always `Ok`: a
     /// pass takes no memory.
     pub fn pass(&self, from: &mut Pass<I>) -> Result<Pass<I>, Memory>
@@ -52,7 +63,10 @@ impl<I: Placed + Drop> Stream<I> {
             .table
             .shared
             .split_seat::<plays::Parted>(&mut from.seat);
-        Ok(Pass { seat })
+        Ok(Pass {
+            seat,
+            stores: from.stores,
+        })
     }
 
     /// Lets a pass see what another pass of the same stream has seen: the longer of the two lists, which both begin.
@@ -62,10 +76,11 @@ impl<I: Placed + Drop> Stream<I> {
         ensures stream { place_of_pass pass.new ≡ place_of_pass pass.old }
         ensures met { Meets I.lawful (reads pass.old) (reads other) (reads pass.new) }
     {
-        let Pass { seat } = other;
+        let Pass { seat, stores } = other;
         let top = &self.table.shared;
         top.join_seat::<plays::Met>(&mut pass.seat, seat);
         top.load::<plays::Learned<I>>(&mut pass.seat, TICKET);
+        pass.stores = pass.stores.max(stores);
     }
 
     /// Lets a pass see what a pen of the same stream has seen, and keep the value of `next` that the pen read last. The
@@ -85,6 +100,16 @@ impl<I: Placed + Drop> Stream<I> {
         top.load::<plays::Learned<I>>(&mut pen.seat, TICKET);
         let told = top.split_seat::<plays::Parted>(&mut pen.seat);
         top.join_seat::<plays::Met>(&mut pass.seat, told);
+        pass.stores = pass.stores.max(pen.stores);
         Ok(())
+    }
+}
+
+impl<I: Placed> Pass<I> {
+    /// How many stores the pass has seen. Takes no memory.
+    pub fn stores(&self) -> u64
+        ensures { result ≡ length (seen_by self.now) }
+    {
+        self.stores
     }
 }

@@ -3,85 +3,46 @@
 ghost use Rattle.std.specs.Prelude.{◌≡◌, ◌+◌, ◌^◌, ◌<◌, ◌≤◌, [], ◌∷◌, None, length, slice_index, IfOk, OnOk};
 ghost use Rattle.mx_lanes.specs.Held.{Held};
 ghost use Rattle.mx_lanes.specs.Parts.{IsUpTo};
-ghost use Rattle.mx_front.specs.declared.view.Turn.TheVariants.{Waits};
-ghost use Rattle.mx_front.specs.Told.{Came, leaving};
+ghost use Rattle.mx_front.specs.Told.{leaving};
 ghost use Rattle.mx_front.specs.Turns.{holding, HasBook, Entered, Seized, Ready, Stores, Grown, MayLeave};
 
-use crate::board::{COUNT, Place, SERVING, TICKET};
+use crate::board::{COUNT, Key, Order, Place, SERVING, TICKET};
 use crate::front::Stream;
 use crate::plays;
+use crate::queue::{Owed, claim, come};
+use crate::view::View;
 use mx_core::Placed;
 use mx_ids::{Copied, Memory, Seq};
 use mx_lanes::{Book, Parts};
 use std::alloc::Global;
 use std::sync::Wait;
-use std::thread::yield_now;
 
 impl<I: Placed + Drop> Stream<I> {
-    /// Takes the next ticket.
-    fn claim<R: Wait>(&self, rt: &R, seat: &mut Place<I>) -> u64
-        requires table { seat.old.table_id ≡ self.now.table.shared.table_id }
-        ensures table { seat.new.table_id ≡ seat.old.table_id }
-        ensures claimed { seat.new.me ≡ (record seat.old.me.0 { turn = Waits result }, seat.old.me.1) }
-        ensures below { result + 1 < 2 ^ 64 }
-    {
-        let top = &self.table.shared;
-        'tries: for _ in rt.forever() {
-            let ticket = top.peek(TICKET);
-            if ticket < u64::MAX {
-                let found = top.compare_exchange::<plays::Claimed>(
-                    seat,
-                    TICKET,
-                    ticket,
-                    ticket + 1,
-                );
-                if found == ticket {
-                    return ticket;
-                }
-            }
-        }
-        unreachable!()
-    }
-
-    /// Waits until a ticket is served, and takes the book.
-    fn come<R: Wait>(&self, rt: &R, seat: &mut Place<I>, ticket: u64)
-        requires table { seat.old.table_id ≡ self.now.table.shared.table_id }
-        requires waits { seat.old.me.0.turn ≡ Waits ticket }
-        ensures table { seat.new.table_id ≡ seat.old.table_id }
-        ensures came { Came seat.old.me ticket seat.new.me }
-    {
-        let top = &self.table.shared;
-        'looks: for _ in rt.forever() {
-            if top.load::<plays::Came>(seat, SERVING) == ticket {
-                return;
-            }
-            yield_now();
-        }
-        unreachable!()
-    }
-
-    /// Waits for a turn, and takes the book. Returns the ticket.
-    pub(crate) fn enter<R: Wait>(&self, rt: &R, seat: &mut Place<I>) -> u64
+    /// Waits for a turn, and takes the book.
+    pub(crate) fn enter<R: Wait>(&self, rt: &R, seat: &mut Place<I>) -> Owed
         requires table { seat.old.table_id ≡ self.now.table.shared.table_id }
         requires bare { seat.old.me.1 ≡ [] }
         ensures table { seat.new.table_id ≡ seat.old.table_id }
-        ensures entered { Entered seat.old.me.0 result seat.new.me }
+        ensures entered { Entered seat.old.me.0 result.ticket seat.new.me }
     {
-        let ticket = self.claim(rt, seat);
-        self.come(rt, seat, ticket);
-        ticket
+        let top = &self.table.shared;
+        let ticket =
+            claim::<plays::Claimed, Option<Book<I>>, View<I>, Key, Order, R>(rt, top, seat, TICKET);
+        come::<plays::Came, Option<Book<I>>, View<I>, Key, Order, R>(rt, top, seat, SERVING, ticket);
+        Owed { ticket }
     }
 
-    /// Waits for a turn, takes the book, and looks at its stores. Returns the ticket.
-    pub(crate) fn seize<R: Wait>(&self, rt: &R, seat: &mut Place<I>) -> u64
+    /// Waits for a turn, takes the book, and looks at its stores: `count` is then their number.
+    pub(crate) fn seize<R: Wait>(&self, rt: &R, seat: &mut Place<I>, count: &mut u64) -> Owed
         requires table { seat.old.table_id ≡ self.now.table.shared.table_id }
         requires bare { seat.old.me.1 ≡ [] }
         ensures table { seat.new.table_id ≡ seat.old.table_id }
-        ensures seized { Seized I.lawful seat.old.me.0 result seat.new.me }
+        ensures seized { Seized I.lawful seat.old.me.0 result.ticket seat.new.me }
+        ensures count { count.new ≡ length seat.new.me.0.seen }
     {
-        let ticket = self.enter(rt, seat);
-        self.table.shared.load::<plays::Looked<I>>(seat, COUNT);
-        ticket
+        let owed = self.enter(rt, seat);
+        *count = self.table.shared.load::<plays::Looked<I>>(seat, COUNT);
+        owed
     }
 
     /// Takes the book out of the slot in hand.
@@ -105,18 +66,20 @@ impl<I: Placed + Drop> Stream<I> {
         self.table.shared.exchange(seat, 0, Some(book));
     }
 
-    /// Stores items in the turn. Returns the front. Takes no memory.
+    /// Stores items in the turn: `count` is then the number of stores. Returns the front. Takes no memory.
     pub(crate) fn put_store(
         &self,
         seat: &mut Place<I>,
         writer: u8,
         first: u64,
         items: Seq<I>,
+        count: &mut u64,
     ) -> u64
         requires table { seat.old.table_id ≡ self.now.table.shared.table_id }
         requires ready { (b : Held I) × Ready I.lawful seat.old.me (record { writer = writer; first = first; items = items }) b }
         ensures table { seat.new.table_id ≡ seat.old.table_id }
         ensures stored { Stores seat.old.me.0 (record { writer = writer; first = first; items = items }) result seat.new.me }
+        ensures count { count.new ≡ length seat.new.me.0.seen }
     {
         let mut book = self.take_book(seat);
         book.store(writer, first, items);
@@ -124,6 +87,7 @@ impl<I: Placed + Drop> Stream<I> {
         let stores = book.stores();
         self.put_book(seat, book);
         self.table.shared.store::<plays::Put>(seat, COUNT, stores);
+        *count = stores;
         front
     }
 
@@ -147,12 +111,13 @@ impl<I: Placed + Drop> Stream<I> {
     }
 
     /// Ends the turn: the book goes back, and the next ticket is served.
-    pub(crate) fn leave(&self, seat: &mut Place<I>, ticket: u64)
+    pub(crate) fn leave(&self, seat: &mut Place<I>, owed: Owed)
         requires table { seat.old.table_id ≡ self.now.table.shared.table_id }
-        requires turn { (b : Held I) × MayLeave seat.old.me ticket b }
+        requires turn { (b : Held I) × MayLeave seat.old.me owed.ticket b }
         ensures table { seat.new.table_id ≡ seat.old.table_id }
         ensures left { (b : Held I) → seat.old.me.1 ≡ holding b → seat.new.me ≡ (leaving seat.old.me.0 b, []) }
     {
+        let Owed { ticket } = owed;
         self.table
             .shared
             .store::<plays::Left>(seat, SERVING, ticket + 1);

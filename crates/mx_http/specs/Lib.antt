@@ -8,3 +8,4 @@ pub mod Parts
 pub mod Answers
 pub mod Queries
 pub mod Stages
+pub mod Paths

@@ -20,6 +20,6 @@ pub use answer::{Answer, Body, WriteFault, write_answer};
 pub use call::Call;
 pub use fault::HttpFault;
 pub use laws::calls_are_determined;
-pub use parameters::query;
+pub use parameters::{access_token, parameter, path, path_parts, query};
 pub use requests::Reader;
 pub use start::reader;

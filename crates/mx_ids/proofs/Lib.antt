@@ -6,3 +6,4 @@ pub mod Page
 pub mod Read
 pub mod Sync
 pub mod Tokens
+mod FirstChar

@@ -1,6 +1,7 @@
 //! The texts, lists, ids and tokens that every other crate of mxsync stands on.
 #![tactic(auto)]
 
+mod characters;
 mod copied;
 mod event_id;
 mod memory;
@@ -14,6 +15,7 @@ mod text;
 mod user;
 mod users;
 
+pub use characters::split_first;
 pub use copied::Copied;
 pub use event_id::{EventId, event_id_text_is_injective, read_event_id, write_event_id};
 pub use memory::Memory;

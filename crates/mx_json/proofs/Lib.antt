@@ -8,3 +8,4 @@ pub mod Texts
 pub mod Sizes
 pub mod Whole
 pub mod ReadBack
+mod Dotted

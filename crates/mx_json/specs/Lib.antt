@@ -7,3 +7,4 @@ pub mod Numbers
 pub mod Reading
 pub mod Texts
 pub mod Laws
+pub mod Lookups

@@ -1,6 +1,11 @@
 //! What a book stands for: each law is the contract of a function with an empty body.
 
-ghost use Rattle.mx_lanes.specs.Laws.{OneHistory, OneStoreMore, StandsStill};
+ghost use Rattle.mx_lanes.specs.Laws.{OneHistory, OneStoreMore, StandsStill, UpToFront};
+
+use crate::book::Book;
+use crate::parts::Parts;
+use crate::shared::Shared;
+use mx_core::crosses_threads;
 
 /// A book stands for one history: the stores by which it goes beyond a history are known by the book.
 pub fn book_stands_for_one_history<I>()
@@ -16,3 +21,15 @@ pub fn book_stands_with_one_store_more<I>()
 pub fn book_stands_still<I>()
     ensures { StandsStill I }
 {}
+
+/// The items up to the front of a history are those that it covers.
+pub fn parts_are_covered<I>()
+    ensures { UpToFront I }
+{}
+
+/// A book, its parts and what they share cross threads where the items do.
+pub fn books_cross_threads<I: Drop + Send + Sync>() {
+    crosses_threads::<Book<I>>();
+    crosses_threads::<Parts<I>>();
+    crosses_threads::<Shared<I>>();
+}

@@ -2,3 +2,4 @@ pub mod Causes
 pub mod Moves
 pub mod Calls
 pub mod Named
+pub mod Readings

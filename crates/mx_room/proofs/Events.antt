@@ -1,5 +1,5 @@
 -- The events of a room by the fields of a book, and what becomes of an event.
-use Rattle.std.proofs.Common.{◌≡◌, ℕ, ◌<◌, ◌&&◌, nat_lt, Bool, true, false, cond, List, [], ◌∷◌, drop, get_or, length, map, Option, Some, None, Result, Ok, Err, MatchOption, refl, sym, ap, ap₂, subst, ◌∙◌, arith}
+use Rattle.std.proofs.Common.{◌≡◌, ℕ, ◌<◌, ◌&&◌, nat_lt, Bool, true, false, cond, List, [], ◌∷◌, drop, get_or, length, map, Option, Some, None, Result, Ok, Err, MatchOption, is_some, refl, sym, ap, ap₂, subst, ◌∙◌, arith}
 use Rattle.std.proofs.lemmas.Bool.{eq-eqb, lt-ltb}
 use Rattle.mx_ids.specs.declared.event_id.EventId.{EventId}
 use Rattle.mx_ids.specs.declared.room_id.RoomId.{RoomId}
@@ -13,7 +13,7 @@ use Rattle.mx_room.specs.declared.fault.RoomFault.TheVariants as faults
 use Rattle.mx_room.specs.declared.rooms.Room.{Room}
 use Rattle.mx_room.specs.declared.txns.TxnIndex.{TxnIndex}
 use Rattle.mx_room.specs.declared.txns.TxnKey.{TxnKey}
-use Rattle.mx_room.specs.Admitting.{outcome, sent_in, unless_sent}
+use Rattle.mx_room.specs.Admitting.{has_room, outcome, sent_in, unless_sent}
 use Rattle.mx_room.specs.Books.{Rooms, events_of, room_events}
 use Rattle.mx_room.specs.Held.{IsBook, IsRoomAt, Opens, bare, events_at, events_in, state_at}
 use Rattle.mx_room.specs.Keys.{sent_at, txn_of}
@@ -98,3 +98,31 @@ pub found_sent : {writer : ℕ} {rs : List Room} {txns : TxnIndex} {key : Option
 found_sent {rs = rs} held view is e old was i at k named id sent = found_outcome held view is e old was i at blank (get_or rs i blank) refl k named (Some id) sent where
   blank : Room
   blank = record { at = 0; state = record { events = []; ready = [] } }
+
+-- ---- whether a room is there
+
+by_events : (view : Rooms) (room : RoomId) (es : List Event) → room_events view room ≡ es → has_room view room ≡ (nat_lt 0 room.at && nat_lt 0 (length es))
+by_events view room es is = ap (λ l. nat_lt 0 room.at && nat_lt 0 (length l)) is
+
+never_both : (b : Bool) → (b && false) ≡ false
+never_both true = refl
+never_both false = refl
+
+pub has_by_index : {writer : ℕ} {rs : List Room} {txns : TxnIndex} {key : Option TxnKey} {fresh : Option Standing} {spare : Type 0} {b : Rooms} → IsBook writer rs txns key fresh spare b
+    → (view : Rooms) → b ≡ view → (room : RoomId) (old : List Room) → old ≡ rs → (o : Option ℕ)
+    → MatchOption o (events_in writer (map bare old) room ≡ []) (λ i. IsRoomAt writer old room i) → is_some o ≡ has_room view room
+has_by_index held view is room old was None h = sym (by_events view room [] (its_events held view is room old was [] h) ∙ never_both (nat_lt 0 room.at))
+has_by_index {rs = rs} held view is room old was (Some i) at =
+    let opens : Opens (bare (get_or rs i blank)) = opened_at blank rs i (subst (λ (l : List Room). i < length l) was at.within) held.opens in
+    let here : (get_or rs i blank).at ≡ room.at = ap (λ (l : List Room). (get_or l i blank).at) (sym was) ∙ at.here blank in
+    let events = its_events held view is room old was (get_or rs i blank).state.events (at.holds blank ∙ ap (λ l. (get_or l i blank).state.events) was) in
+    sym
+    (by_events view room (get_or rs i blank).state.events events
+    ∙ ap₂ (λ a b. a && b) (lt-ltb 0 room.at (subst (λ n. 0 < n) here opens.placed)) (some_of (get_or rs i blank).state.events opens.first opens.begins))
+  where
+    blank : Room
+    blank = record { at = 0; state = record { events = []; ready = [] } }
+
+    some_of : (es : List Event) (v : Event) → es ≡ v ∷ drop 1 es → nat_lt 0 (length es) ≡ true
+    some_of [] v e = absurd cc
+    some_of (x ∷ xs) v e = lt-ltb 0 (length (x ∷ xs)) (omega arith)

@@ -98,7 +98,7 @@ follow_stores k before (s ∷ ss) mine rest h =
     (subst (λ l. Follow k l (items_of ss)) (items_more before s) (follow_stores k (before ++ s ∷ []) ss (own_more before s k mine first.0) first.1 parts.1))
 
 pub events_follow : (b : Rooms) → IsLawful b → Follow b.writer [] (events_of b)
-events_follow b h = follow_stores b.writer [] b.stores refl h.mine h.lawful
+events_follow b h = follow_stores b.writer [] b.stores refl h.writer h.lawful
 
 -- each event is in a room of the writer
 all_write : (k : ℕ) (before es : List Event) → Follow k before es → AllByRecursion (λ (e : Event). e.room.writer ≡ k) es

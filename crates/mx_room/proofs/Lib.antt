@@ -7,3 +7,4 @@ pub mod Positions
 mod Sending
 pub mod Standing
 pub mod Taking
+pub mod Crosses

@@ -6,7 +6,7 @@ ghost use Rattle.mx_core.specs.History.{placed_from};
 ghost use Rattle.mx_event.specs.Lawful.{placed_event};
 ghost use Rattle.mx_event.specs.State.{membership_of};
 ghost use Rattle.mx_room.specs.declared.fault.RoomFault.TheVariants as faults;
-ghost use Rattle.mx_room.specs.Admitting.{admitted_by, answered, outcome, ready_block};
+ghost use Rattle.mx_room.specs.Admitting.{admitted_by, answered, has_room, outcome, ready_block};
 ghost use Rattle.mx_room.specs.Books.{no_rooms, room_events, taken_in, MayStand, SameRooms};
 ghost use Rattle.mx_room.specs.Creating.{IsNew};
 ghost use Rattle.mx_room.specs.Held.{bare, events_in, IsRoomAt, Rises};
@@ -87,6 +87,13 @@ impl RoomBook {
     {
         let state = self.state(room)?;
         state.membership(user)
+    }
+
+    /// Whether the writer has a room. Takes no memory; logarithmic in the number of rooms.
+    pub fn has_room(&self, room: &RoomId) -> bool
+        ensures { result ≡ has_room self.now room.now }
+    {
+        find_room(self.rooms.as_slice(), self.writer, room).is_some()
     }
 
     /// What becomes of a draft: an event that may be stored, and is ready, or the id of the event that the

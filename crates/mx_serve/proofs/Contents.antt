@@ -84,6 +84,7 @@ folded user kind known (entry.Data own_user own_room own_kind content at ∷ es)
     (λ (h : is_mine ≡ false).
     ap both h ∙ folded user kind known es ∙ ap (λ o. option_or o (content_at known kind)) (sym (or_none later)) ∙ ap said (sym h))
     (cases_Bool is_mine)
+folded user kind known (entry.Filter own_user id filter at ∷ es) = folded user kind known es ∙ ap (λ o. option_or o (content_at known kind)) (sym (or_none (last_content user kind es)))
 
 -- account data hold under each type the content that was put last
 pub content-data_of : (user kind : List ℕ) (es : List Entry) → content_at (data_of user None es) kind ≡ last_content user kind es

@@ -1,3 +1,4 @@
+pub mod Noted
 pub mod Lanes
 pub mod Lines
 pub mod Goes

@@ -2,6 +2,7 @@
 
 ghost use Rattle.std.specs.Prelude.{◌≡◌, ℕ, List, Option, Some};
 ghost use Rattle.mx_core.specs.declared.history.Stored.{Stored};
+ghost use Rattle.mx_core.specs.History.{IsLane};
 ghost use Rattle.mx_writers.specs.Decision.{Decision, Prepares, MayFollow, AreLawful, with_store};
 
 use mx_core::{Placed, Prepared};
@@ -69,9 +70,10 @@ pub trait Folds: Sized + Drop {
         ensures decided { Prepares (decides (writer self.old) (own self.old) draft) result (pending self.new) };
 
     /// Takes the pending block in as a store from the position `first` on: at least 1 and above each position of the own
-    /// list, with the last position below 2^48. Takes no memory.
+    /// list, with the last position below 2^48. The own list is lawful. Takes no memory.
     fn commit(&mut self, first: u64, prepared: &Prepared<Self::Item>)
         requires pending { pending self.old ≡ Some prepared.now.items }
+        requires lane { IsLane Self.Item.lawful (writer self.old) (own self.old) }
         requires follows { MayFollow (own self.old) first prepared.now.items }
         ensures writer { writer self.new ≡ writer self.old }
         ensures own { own self.new ≡ with_store Self.Item.placed (writer self.old) (own self.old) first prepared.now.items };

@@ -1,6 +1,7 @@
 use Rattle.std.proofs.Common.{◌<◌, ◌≤◌, inr, sym, subst, ◌∙◌}
 use Rattle.mx_create.specs.Blocks.{Creating}
 use Rattle.mx_create.proofs.Admitting.{is_block}
+use Rattle.mx_create.proofs.Tests.{block_test}
 use Rattle.mx_create.proofs.Outcomes.{found, no_preset, no_user, no_version, too_many}
 use Rattle.mx_create.proofs.creation.block.Goals as goal
 
@@ -36,3 +37,9 @@ returns-clause-block c =
     let by : Creating = record { creator = c.args.creator.now; ts = c.args.ts } in
     let count = c.event_count.ensures by c.in-Some.preset in
     is_block by c.in-Some.preset c.args.ask.now _ c.in_ok-drafts.ensures (subst (λ n. n ≤ 256) count c.if-event_count-gt-MOST_EVENTS.false)
+
+pub returns-clause-test : goal.returns-clause-test
+returns-clause-test c =
+    let by : Creating = record { creator = c.args.creator.now; ts = c.args.ts } in
+    let count = c.event_count.ensures by c.in-Some.preset in
+    block_test _ (is_block by c.in-Some.preset c.args.ask.now _ c.in_ok-drafts.ensures (subst (λ n. n ≤ 256) count c.if-event_count-gt-MOST_EVENTS.false))

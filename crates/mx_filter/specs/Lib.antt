@@ -1,0 +1,5 @@
+pub mod Fields
+pub mod Judging
+pub mod Filters
+pub mod Passes
+pub mod Sieves

@@ -1,5 +1,0 @@
-use Rattle.mx_folding.proofs.event_laws.events_are_story.Goals as goal
-use Rattle.mx_folding.proofs.Events as law
-
-pub returns : goal.returns
-returns g c = law.events_are_story

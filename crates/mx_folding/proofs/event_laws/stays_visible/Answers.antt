@@ -1,5 +1,0 @@
-use Rattle.mx_folding.proofs.event_laws.stays_visible.Goals as goal
-use Rattle.mx_folding.proofs.Sees as law
-
-pub returns : goal.returns
-returns g c = law.stays_visible

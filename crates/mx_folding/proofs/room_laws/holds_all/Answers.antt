@@ -1,5 +1,0 @@
-use Rattle.mx_folding.proofs.room_laws.holds_all.Goals as goal
-use Rattle.mx_folding.proofs.Rest as law
-
-pub returns : goal.returns
-returns g c = law.holds_all

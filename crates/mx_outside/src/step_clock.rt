@@ -1,0 +1,62 @@
+//! A clock that its readings alone move.
+ghost use Rattle.std.specs.Prelude.{◌≡◌, ◌≤◌, min};
+ghost use Rattle.mx_outside.specs.Readings.{most_reading, read};
+
+use crate::clock::{Clock, MOST_READING};
+use std::marker::Model;
+
+/// A clock whose first reading is given, and that each reading moves on by a step, up to the greatest
+/// reading. A rest returns at once.
+#[derive(Debug, Drop)]
+pub struct StepClock {
+    next: u64,
+    step: u64,
+    last: u64,
+}
+
+impl Model for StepClock {
+    ghost use Rattle.mx_outside.specs.Readings.{Steps};
+
+    ghost Value = { Steps };
+
+    ghost view = { λ c. record { next = c.next; step = c.step; last = c.last } };
+}
+
+impl StepClock {
+    /// A clock that reads `start` first, and each time `step` milliseconds more, at least 1.
+    pub fn new(start: u64, step: u64) -> StepClock
+        requires { 1 ≤ step }
+        ensures { result ≡ record { next = start; step = step; last = 0 } }
+    {
+        StepClock {
+            next: start,
+            step,
+            last: 0,
+        }
+    }
+}
+
+impl Clock for StepClock {
+    ghost last = { λ c. c.last };
+
+    fn now(&mut self) -> u64
+        ensures last { self.new.last ≡ result }
+        ensures most { result ≤ most_reading }
+        ensures steps { self.new ≡ read self.old }
+    {
+        let reading = self.next.min(MOST_READING);
+        self.next = reading.saturating_add(self.step).min(MOST_READING);
+        self.last = reading;
+        reading
+    }
+
+    fn rest(&mut self, _ms: u64) {}
+
+    fn twin(&self) -> StepClock {
+        StepClock {
+            next: self.next,
+            step: self.step,
+            last: self.last,
+        }
+    }
+}

@@ -1,0 +1,28 @@
+-- The rooms of a writer may go to another thread, and threads may share them.
+use denote.Param.Send.{IsSend, IsSync, view_send, view_sync, sendable}
+use denote.Param.SendFields.{declared_send, declared_sync}
+use Rattle.std.proofs.Crossing.{crosses}
+use Rattle.std.proofs.MapsCrossing.{crosses as maps}
+use Rattle.mx_auth.proofs.Crosses as auth
+use Rattle.mx_ids.proofs.event_id.EventId.TheSendSync as id
+use Rattle.mx_room.specs.contracts.room_book.RoomBook as RoomBook
+use Rattle.mx_room.specs.contracts.room_book.RoomBook.TheInside as inside
+use Rattle.mx_room.specs.contracts.rooms.Room as Room
+use Rattle.mx_room.proofs.txns.TxnKey.TheSendSync as key
+use Rattle.mx_room.proofs.ledger.Ledger.TheSendSync as ledger
+
+room_send : IsSend Room.the_row
+room_send = declared_send Room.the_type (search sendable depth 9, (auth.send, tt))
+
+room_sync : IsSync Room.the_row
+room_sync = declared_sync Room.the_type (search sendable depth 9, (auth.sync, tt))
+
+pub send : IsSend RoomBook.the_row
+send = view_send inside.the_row _ _ _ _ (declared_send inside.the_type (
+    search sendable depth 9, (search sendable depth 9, (search (room_send, crosses, sendable) depth 9, (search (key.the_send, id.the_send, crosses, maps, sendable) depth 12, (
+    search (key.the_send, sendable) depth 9, (search (auth.send, sendable) depth 9, (ledger.the_send, tt))))))))
+
+pub sync : IsSync RoomBook.the_row
+sync = view_sync inside.the_row _ _ _ _ (declared_sync inside.the_type (
+    search sendable depth 9, (search sendable depth 9, (search (room_sync, crosses, sendable) depth 9, (search (key.the_sync, id.the_sync, crosses, maps, sendable) depth 12, (
+    search (key.the_sync, sendable) depth 9, (search (auth.sync, sendable) depth 9, (ledger.the_sync, tt))))))))
