@@ -66,7 +66,7 @@ Shows r es b t front p (Asked ids) had = (had.joined ≡ None) × (had.invited �
 abbrev pub HoldsPicture : {V D : Type 0} → Server V D → Lists → List ℕ → Selection → SyncToken → ℕ → RoomId → Holding Event Key V → Type 0
 HoldsPicture w lists user f t front room had =
     Shows (room_of (sieve_of w.name f room) user (events_in lists room)) (events_in lists room) t.b t.e front (picture w lists user f t room)
-        (picture w lists user f t room).standing had
+    (picture w lists user f t room).standing had
 
 -- Without an open gap a client holds just the picture's timeline, and without lazy members just its state.
 abbrev pub ClosedIsPicture : Type 0 → Type 0

@@ -1,5 +1,5 @@
 -- What a server answers by, besides its lists, and a room over these lists for a user and a filter.
-use Rattle.std.specs.Prelude.{◌≡◌, ℕ, Bool, true, List, Option}
+use Rattle.std.specs.Prelude.{ℕ, Bool, List, Option}
 use Rattle.mx_ids.specs.declared.room_id.RoomId.{RoomId}
 use Rattle.mx_ids.specs.declared.sync_token.SyncToken.{SyncToken}
 use Rattle.mx_json.specs.declared.value.Json.{Json}
@@ -7,7 +7,7 @@ use Rattle.mx_event.specs.declared.event.Event.{Event}
 use Rattle.mx_folding.specs.Stories.{Rest, FoldsRest, Story}
 use Rattle.mx_folding.specs.Visible.{joined_at}
 use Rattle.mx_view.specs.Readings.{viewer_of}
-use Rattle.mx_view.specs.Rooms.{Key, Sieve, PicksByType, story_of}
+use Rattle.mx_view.specs.Rooms.{Key, story_of}
 use Rattle.mx_view.specs.Tokens.{tokens}
 use Rattle.mx_filter.specs.Passes as filters
 use Rattle.mx_filter.specs.Sieves.{sieve_of}
