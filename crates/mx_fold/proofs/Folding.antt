@@ -29,7 +29,7 @@ use Rattle.mx_core.proofs.Covering.{front_rises}
 use Rattle.mx_fold.specs.Lists.{Lists, Histories, Counts, AreFewer, AreLawful, no_lists, no_stores, upto, fronts_of, counts_of, lists_of, lists_at, events_in}
 use Rattle.mx_fold.specs.Servers.{Server, RestsFold, rest_of, story}
 use Rattle.mx_fold.specs.Accounts.{content_at, account_at, account_sent}
-use Rattle.mx_fold.specs.Replies.{SyncAsk, PageAsk, Ask, Syncs, Pages, Else, Replied, Showed, PassedOver, Reply, to_at, asked_gap, is_behind, heroes_in, reply_of, page_asked, sees_room, answer_to}
+use Rattle.mx_fold.specs.Replies.{Extent, sync_in, SyncAsk, PageAsk, Ask, Syncs, Pages, Else, Replied, Showed, PassedOver, Reply, to_at, asked_gap, is_behind, heroes_in, reply_of, page_asked, sees_room, answer_to}
 use Rattle.mx_fold.specs.Clients.{Client, nothing_held, after_reply, with_reply, page_into, after_page, opening_of, with_gap, with_shown, with_said, chain, Agrees}
 use Rattle.mx_fold.specs.Exchanges.{Mark, exchange_at, exchanges, MarksRise, ConnectionsAgree}
 use Rattle.mx_fold.proofs.Readers.{same_told_read, page_read}
@@ -106,9 +106,9 @@ module _ {V D : Type 0} (w : Server V D) (h : Histories) (lawful : AreLawful h) 
 
     -- ---- a reply
 
-    module _ (since : Option SyncToken) (sync : Sync) (behind : is_behind since (fronts_of here) ≡ true) where
+    module _ (since : Option SyncToken) (extent : Extent) (behind : is_behind since (fronts_of here) ≡ true) where
       abbrev ask : SyncAsk
-      ask = record { filter = f; since = since; sync = sync }
+      ask = record { filter = f; since = since; extent = extent }
 
       abbrev next : SyncToken
       next = next_token since fronts
@@ -119,44 +119,44 @@ module _ {V D : Type 0} (w : Server V D) (h : Histories) (lawful : AreLawful h) 
       abbrev reply : Reply V D
       reply = reply_of w here user ask
 
-      told_is : IsBase tokens next.b since next → (room : RoomId) → reply.rooms room ≡ told tokens (stories room) sync (heroes room) next.b since next
+      told_is : IsBase tokens next.b since next → (room : RoomId) → reply.rooms room ≡ told tokens (stories room) (sync_in f extent) (heroes room) next.b since next
       told_is base room =
-          ap (λ l. told tokens (story w l user f room) sync (heroes room) next.b since next) (mark ∙ sym (upto_next final since fronts))
-          ∙ told_at_mark w final (events_stand h lawful) user f room sync (heroes room) next.b since next (next_behind since fronts behind) base
+          ap (λ l. told tokens (story w l user f room) (sync_in f extent) (heroes room) next.b since next) (mark ∙ sym (upto_next final since fronts))
+          ∙ told_at_mark w final (events_stand h lawful) user f room (sync_in f extent) (heroes room) next.b since next (next_behind since fronts behind) base
 
       taken_in : IsBase tokens next.b since next → (rooms : RoomId → Holding Event Key V) (room : RoomId)
-          → with_told (story w no_lists user f room) sync.after (position tokens since) next.e (reply.rooms room) (rooms room)
-          ≡ with_told (stories room) sync.after (position tokens since) next.e (told tokens (stories room) sync (heroes room) next.b since next) (rooms room)
+          → with_told (story w no_lists user f room) extent.after (position tokens since) next.e (reply.rooms room) (rooms room)
+          ≡ with_told (stories room) extent.after (position tokens since) next.e (told tokens (stories room) (sync_in f extent) (heroes room) next.b since next) (rooms room)
       taken_in base rooms room =
-          same_told_read w user f room no_lists final sync.after (position tokens since) next.e (reply.rooms room) (rooms room)
-          ∙ ap (λ t. with_told (stories room) sync.after (position tokens since) next.e t (rooms room)) (told_is base room)
+          same_told_read w user f room no_lists final extent.after (position tokens since) next.e (reply.rooms room) (rooms room)
+          ∙ ap (λ t. with_told (stories room) extent.after (position tokens since) next.e t (rooms room)) (told_is base room)
 
       account_is : reply.account ≡ account_sent w final.accounts user f since fronts.a
       account_is = ap (λ (l : Lists). account_sent w l.accounts user f since fronts.a) mark ∙ account_at_mark w final.accounts (accounts_stand h lawful) user f since fronts.a
 
-    begins : (sync : Sync) → Kept fronts (after_reply w user f None 0 (nothing_held V) (λ kind. None) sync.after (reply None sync refl))
-    begins sync = record {
-      turns = Synced sync (heroes None sync refl) (next None sync refl) ∷ [];
+    begins : (extent : Extent) → Kept fronts (after_reply w user f None 0 (nothing_held V) (λ kind. None) extent.after (reply None extent refl))
+    begins extent = record {
+      turns = Synced (sync_in f extent) (heroes None extent refl) (next None extent refl) ∷ [];
       taken = (tt, tt);
       comes =
-          let rooms = taken_in None sync refl refl (nothing_held V) in
-          λ i. record { token = Some (next None sync refl); base = fronts.e; front = max 0 fronts.e; rooms = λ room. rooms room i };
+          let rooms = taken_in None extent refl refl (nothing_held V) in
+          λ i. record { token = Some (next None extent refl); base = fronts.e; front = max 0 fronts.e; rooms = λ room. rooms room i };
       based = omega arith;
       reached = next_before None fronts;
-      account = λ kind. option_or-none (content_at kind (reply None sync refl).account) ∙ ap (content_at kind) (account_is None sync refl) ∙ account_new w user f kind final.accounts fronts.a;
+      account = λ kind. option_or-none (content_at kind (reply None extent refl).account) ∙ ap (content_at kind) (account_is None extent refl) ∙ account_new w user f kind final.accounts fronts.a;
     }
 
-    goes_on : (sync : Sync) (c : Client V) (behind : is_behind (Some c.token) fronts ≡ true) → Kept low c
-        → Kept fronts (after_reply w user f (Some c.token) c.front c.rooms c.account sync.after (reply (Some c.token) sync behind))
-    goes_on sync c behind kept =
+    goes_on : (extent : Extent) (c : Client V) (behind : is_behind (Some c.token) fronts ≡ true) → Kept low c
+        → Kept fronts (after_reply w user f (Some c.token) c.front c.rooms c.account extent.after (reply (Some c.token) extent behind))
+    goes_on extent c behind kept =
         let since : Option SyncToken = Some c.token in
-        let ends : SyncToken = next (Some c.token) sync behind in
+        let ends : SyncToken = next (Some c.token) extent behind in
         let parts = before_parts c.token fronts (before_trans c.token low fronts kept.reached up) in
         let rises : c.token.e ≤ fronts.e = parts.0 in
         let reaches : c.token.a ≤ fronts.a = parts.2 in
-        let rooms = taken_in since sync behind kept.based c.rooms in
-        let turn : Turn RoomId Event Key SyncToken = Synced sync (heroes since sync behind) ends in
-        let after : folded (after_reply w user f since c.front c.rooms c.account sync.after (reply since sync behind)) ≡ after_turn tokens stories (folded c) turn =
+        let rooms = taken_in since extent behind kept.based c.rooms in
+        let turn : Turn RoomId Event Key SyncToken = Synced (sync_in f extent) (heroes since extent behind) ends in
+        let after : folded (after_reply w user f since c.front c.rooms c.account extent.after (reply since extent behind)) ≡ after_turn tokens stories (folded c) turn =
         λ i. record { token = Some ends; base = c.token.b; front = max c.front fronts.e; rooms = λ room. rooms room i } in
         record {
           turns = kept.turns ++ turn ∷ [];
@@ -165,20 +165,20 @@ module _ {V D : Type 0} (w : Server V D) (h : Histories) (lawful : AreLawful h) 
           based = let low' : c.token.b ≤ c.token.e = kept.based in omega (arith, low', rises);
           reached = next_before since fronts;
           account = λ kind.
-              ap (λ ps. option_or (content_at kind ps) (c.account kind)) (account_is since sync behind)
+              ap (λ ps. option_or (content_at kind ps) (c.account kind)) (account_is since extent behind)
               ∙ account_more w user f kind final.accounts (accounts_stand h lawful) c.token fronts.a (c.account kind) reaches (kept.account kind);
         }
 
-    replied : (sync : Sync) (client : Option (Client V)) (since : Option SyncToken) (behind : is_behind since fronts ≡ true) → KeptIf low client
-        → KeptIf fronts (with_reply w user f client since sync.after (reply since sync behind))
-    replied sync None None behind kept = begins sync
-    replied sync (Some c) None behind kept = begins sync
-    replied sync None (Some since) behind kept = tt
-    replied sync (Some c) (Some since) behind kept =
+    replied : (extent : Extent) (client : Option (Client V)) (since : Option SyncToken) (behind : is_behind since fronts ≡ true) → KeptIf low client
+        → KeptIf fronts (with_reply w user f client since extent.after (reply since extent behind))
+    replied extent None None behind kept = begins extent
+    replied extent (Some c) None behind kept = begins extent
+    replied extent None (Some since) behind kept = tt
+    replied extent (Some c) (Some since) behind kept =
         elim (cases_Bool (same_token c.token since)) [
           | inl same ↦ rw same (
-              subst (λ s. (b : is_behind (Some s) fronts ≡ true) → Kept fronts (after_reply w user f (Some s) c.front c.rooms c.account sync.after (reply (Some s) sync b))) (same_is c.token since same)
-              (λ b. goes_on sync c b kept) behind)
+              subst (λ s. (b : is_behind (Some s) fronts ≡ true) → Kept fronts (after_reply w user f (Some s) c.front c.rooms c.account extent.after (reply (Some s) extent b))) (same_is c.token since same)
+              (λ b. goes_on extent c b kept) behind)
           | inr other ↦ rw other (passed low fronts (Some c) up kept)
         ]
 
@@ -250,8 +250,8 @@ module _ {V D : Type 0} (w : Server V D) (h : Histories) (lawful : AreLawful h) 
     syncs asks client kept true behind =
         elim (cases_Bool (sieves.same_filter asks.filter f)) [
           | inl same ↦ rw same (
-              subst (λ g. KeptIf fronts (with_reply w user f client asks.since asks.sync.after (reply_of w here user (record { filter = g; since = asks.since; sync = asks.sync })))) (sym (filters_are asks.filter f same))
-              (replied asks.sync client asks.since behind kept))
+              subst (λ g. KeptIf fronts (with_reply w user f client asks.since asks.extent.after (reply_of w here user (record { filter = g; since = asks.since; extent = asks.extent })))) (sym (filters_are asks.filter f same))
+              (replied asks.extent client asks.since behind kept))
           | inr other ↦ rw other (passed low fronts client up kept)
         ]
 

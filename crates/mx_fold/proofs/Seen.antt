@@ -24,7 +24,7 @@ use Rattle.mx_view.proofs.Pictured.{same_shown}
 use Rattle.mx_filter.specs.Sieves.{sieve_of}
 use Rattle.mx_fold.specs.Lists.{Lists, fronts_of, events_in, lists_at}
 use Rattle.mx_fold.specs.Servers.{Server, story}
-use Rattle.mx_fold.specs.Replies.{SyncAsk, Ask, Syncs, Pages, Else, Said, Replied, Showed, PassedOver, heroes_in, reply_of, is_behind, sees_room, answer_to, asked_gap, page_asked}
+use Rattle.mx_fold.specs.Replies.{SyncAsk, Ask, Syncs, Pages, Else, Said, Replied, Showed, PassedOver, heroes_in, reply_of, sync_of, is_behind, sees_room, answer_to, asked_gap, page_asked}
 use Rattle.mx_fold.specs.Sent.{IsSeen, sent_of, AreSeen, SeesSaid}
 use Rattle.mx_fold.specs.Exchanges.{ConnectionsSee}
 
@@ -91,7 +91,7 @@ module _ {V D : Type 0} (w : Server V D) (lists : Lists) (user : List ℕ) where
   front = (fronts_of lists).e
 
   told_seen : (ask : SyncAsk) (room : RoomId) (b : ℕ) (j : SyncToken) → j.e ≡ front
-      → AreSeen w lists user room (sent_of (told tokens (story w lists user ask.filter room) ask.sync (heroes_in w lists user ask room) b ask.since j))
+      → AreSeen w lists user room (sent_of (told tokens (story w lists user ask.filter room) (sync_of ask) (heroes_in w lists user ask room) b ask.since j))
   told_seen ask room b j same =
       let g = story w lists user ask.filter room in
       let es : List Event = events_in lists room in
@@ -99,12 +99,12 @@ module _ {V D : Type 0} (w : Server V D) (lists : Lists) (user : List ℕ) where
       let s : ℕ = position tokens ask.since in
       let heroes : Key → Bool = heroes_in w lists user ask room in
       let pick_new = picks_new g.room heroes in
-      let pick = picks g.room ask.sync.redundant b s (cond ask.sync.full 0 s) heroes in
-      let anew = part_of g.room es j.e (window ask.sync.after ask.sync.limit 0 j.e) pick_new in
-      let more = part_of g.room es j.e (window ask.sync.after ask.sync.limit s j.e) pick in
-      subst (λ n. AllByRecursion (IsSeen user es n) (sent_of (told tokens g ask.sync heroes b ask.since j))) same
-      (sent_told tokens g j ask.sync.leave anew more (IsSeen user es j.e)
-      (part_seen sieve user es j.e ask.sync.after ask.sync.limit 0 j.e pick_new) (part_seen sieve user es j.e ask.sync.after ask.sync.limit s j.e pick) g.picked ask.since (own_at g j.e))
+      let pick = picks g.room (sync_of ask).redundant b s (cond (sync_of ask).full 0 s) heroes in
+      let anew = part_of g.room es j.e (window (sync_of ask).after (sync_of ask).limit 0 j.e) pick_new in
+      let more = part_of g.room es j.e (window (sync_of ask).after (sync_of ask).limit s j.e) pick in
+      subst (λ n. AllByRecursion (IsSeen user es n) (sent_of (told tokens g (sync_of ask) heroes b ask.since j))) same
+      (sent_told tokens g j (sync_of ask).leave anew more (IsSeen user es j.e)
+      (part_seen sieve user es j.e (sync_of ask).after (sync_of ask).limit 0 j.e pick_new) (part_seen sieve user es j.e (sync_of ask).after (sync_of ask).limit s j.e pick) g.picked ask.since (own_at g j.e))
 
   next_e : (since : Option SyncToken) → (next_token since (fronts_of lists)).e ≡ front
   next_e None = refl
@@ -113,7 +113,7 @@ module _ {V D : Type 0} (w : Server V D) (lists : Lists) (user : List ℕ) where
   reply_seen : (ask : SyncAsk) → SeesSaid w lists user (Replied ask (reply_of w lists user ask))
   reply_seen ask room = (
     told_seen ask room (next_token ask.since (fronts_of lists)).b (next_token ask.since (fronts_of lists)) (next_e ask.since),
-    left_seen (sieve_of w.name ask.filter room) user (events_in lists room) front ask.sync (next_token ask.since (fronts_of lists)).b (position tokens ask.since)
+    left_seen (sieve_of w.name ask.filter room) user (events_in lists room) front (sync_of ask) (next_token ask.since (fronts_of lists)).b (position tokens ask.since)
         (not (joined_at (viewer_of user) (events_in lists room) (position tokens ask.since))) (left_by (viewer_of user) (events_in lists room)),
   )
 

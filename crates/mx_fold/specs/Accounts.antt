@@ -38,4 +38,5 @@ content_at kind ps = option_map (λ (p : List ℕ × Json). p.1) (last_of (λ (p
 
 -- *Picture*, of a user's global account data: for each type that passes the last content up to a, else the default
 abbrev pub account_at : {V D : Type 0} → Server V D → List Entry → List ℕ → Selection → ℕ → List ℕ → Option Json
-account_at w entries user f a kind = option_or (cond (filters.passes_type f kinds.Account kind) (value_at user None kind a entries) None) (content_at kind (defaults_of w user f))
+account_at w entries user f a kind = option_or (cond (filters.passes_type f kinds.Account kind) (value_at user None kind a entries) None)
+    (content_at kind (defaults_of w user f))

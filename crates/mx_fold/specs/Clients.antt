@@ -88,7 +88,7 @@ module _ {V D : Type 0} (w : Server V D) (user : List ℕ) (f : Selection) where
 
   -- the client after an answer to its device
   abbrev pub with_said : ℕ → Said V D → Option (Client V) → Option (Client V)
-  with_said front (Replied ask reply) client = cond (sieves.same_filter ask.filter f) (with_reply client ask.since ask.sync.after reply) client
+  with_said front (Replied ask reply) client = cond (sieves.same_filter ask.filter f) (with_reply client ask.since ask.extent.after reply) client
   with_said front (Showed ask page) client = cond (sieves.fits f ask.filter) (with_shown front ask page client) client
   with_said front PassedOver client = client
 

@@ -34,7 +34,8 @@ stands f user es (Some e) = standing_by (membership_of e) (map position_of (stri
 
 abbrev pub picture : {V D : Type 0} → Server V D → Lists → List ℕ → Selection → SyncToken → RoomId → Picture V
 picture w lists user f t room = record {
-  standing = cond (filters.picks w.name f room) (stands (sieve_of w.name f room) user (events_in lists room) (last_of (is_own user) (room_at (events_in lists room) t.e))) Out;
+  standing = cond (filters.picks w.name f room)
+      (stands (sieve_of w.name f room) user (events_in lists room) (last_of (is_own user) (room_at (events_in lists room) t.e))) Out;
   timeline = map (λ e. shown (events_in lists room) e t.e) (timeline_shown (sieve_of w.name f room) user (events_in lists room) t.e);
   state = λ k. option_map (λ e. shown (events_in lists room) e t.e) (state_shown (sieve_of w.name f room) (events_in lists room) t.e k);
   view = w.view user f room (upto t lists);

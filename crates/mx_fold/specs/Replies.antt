@@ -18,10 +18,23 @@ use Rattle.mx_fold.specs.Lists.{Lists, fronts_of, events_in}
 use Rattle.mx_fold.specs.Servers.{Server, story}
 use Rattle.mx_fold.specs.Accounts.{account_sent}
 
+-- how a sync asks: for the state after the timeline, with a limit of the timeline, with full_state
+pub record Extent : Type 0 where
+  pub after : Bool
+  pub limit : ℕ
+  pub full : Bool
+
 pub record SyncAsk : Type 0 where
   pub filter : Selection
   pub since : Option SyncToken
-  pub sync : Sync
+  pub extent : Extent
+
+-- redundant members and left rooms are asked for by the filter
+abbrev pub sync_in : Selection → Extent → Sync
+sync_in f extent = record { after = extent.after; limit = extent.limit; full = extent.full; redundant = f.redundant; leave = f.include_leave }
+
+abbrev pub sync_of : SyncAsk → Sync
+sync_of ask = sync_in ask.filter ask.extent
 
 -- a backward page: `from` is the page token p{at}_{cut}, `to` a sync token or the room's start
 pub record PageAsk : Type 0 where
@@ -77,8 +90,8 @@ module _ {V D : Type 0} (w : Server V D) (lists : Lists) (user : List ℕ) where
   abbrev pub reply_of : SyncAsk → Reply V D
   reply_of ask = record {
     next = token_of ask;
-    rooms = λ room. told tokens (story w lists user ask.filter room) ask.sync (heroes_in ask room) (token_of ask).b ask.since (token_of ask);
-    left = λ room. left_part (sieve_of w.name ask.filter room) user (events_in lists room) ask.sync (token_of ask).b ask.since (fronts_of lists).e;
+    rooms = λ room. told tokens (story w lists user ask.filter room) (sync_of ask) (heroes_in ask room) (token_of ask).b ask.since (token_of ask);
+    left = λ room. left_part (sieve_of w.name ask.filter room) user (events_in lists room) (sync_of ask) (token_of ask).b ask.since (fronts_of lists).e;
     account = account_sent w lists.accounts user ask.filter ask.since (fronts_of lists).a;
   }
 

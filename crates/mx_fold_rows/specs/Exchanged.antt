@@ -63,7 +63,8 @@ exchange device front said = record { device = device; lists = record { events =
 
 -- a device's sync with a filter, answered
 abbrev pub synced : ℕ → Selection → Option SyncToken → SyncToken → Told Event ℕ ℕ → Exchange ℕ ℕ
-synced device filter since next told = exchange device next.e (Replied (record { filter = filter; since = since; sync = asks 1 })
+synced device filter since next told = exchange device next.e
+    (Replied (record { filter = filter; since = since; extent = record { after = false; limit = 1; full = false } })
     (record { next = next; rooms = λ r. cond (same_room r room) told Nothing; left = λ r. bare_part next.e; account = [] }))
 
 -- device 0 asks for a page of (0, at], cut at 8, at the front 9: what a page of three says
