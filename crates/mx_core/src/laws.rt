@@ -5,6 +5,8 @@ ghost use Rattle.mx_core.specs.Orderly.{RunsAreOrderly};
 ghost use Rattle.mx_core.specs.Places.{CoveredInPlace};
 ghost use Rattle.mx_core.specs.Runs.{CoversNoUnfinishedWrite, NeverFalls};
 
+use crate::machine::Machine;
+
 /// In every run of a machine each position up to the front is stored, and no block that is held meets it.
 pub fn front_covers_no_unfinished_write<I>()
     ensures { CoversNoUnfinishedWrite I }
@@ -35,3 +37,15 @@ pub fn runs_are_orderly<I>()
 pub fn covered_stands_in_place<I>()
     ensures { CoveredInPlace I }
 {}
+
+/// A value of the type may go to another thread: a call at a type is proved only where that holds.
+pub fn goes_to_threads<T: Send>() {}
+
+/// A value of the type may go to another thread, and threads may share it: a call at a type is proved only where that
+/// holds.
+pub fn crosses_threads<T: Send + Sync>() {}
+
+/// A machine crosses threads where its items do.
+pub fn machines_cross_threads<I: Drop + Send + Sync>() {
+    crosses_threads::<Machine<I>>();
+}

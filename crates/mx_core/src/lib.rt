@@ -9,7 +9,8 @@ mod placed;
 
 pub use history::Stored;
 pub use laws::{
-    covered_stands_in_place, covers_more, covers_to_front, front_covers_no_unfinished_write, front_never_falls,
+    covered_stands_in_place, covers_more, covers_to_front, crosses_threads,
+    front_covers_no_unfinished_write, front_never_falls, goes_to_threads, machines_cross_threads,
     runs_are_orderly,
 };
 pub use machine::{Block, Machine, Moved, Step, StepFault};

@@ -22,23 +22,11 @@ use Rattle.mx_front.specs.declared.view.Role.TheVariants.{Reader, Maker, Pen}
 use Rattle.mx_front.specs.declared.view.Turn.{Turn}
 use Rattle.mx_front.specs.declared.view.Turn.TheVariants.{Idle, Waits, Has}
 use Rattle.mx_front.specs.declared.view.View.{View}
-use Rattle.mx_front.specs.World.{Slot, Line, Core, World, words_of, IsHome, Kept, Standing, Stocked, Good, Waiting, Having, Queued, PenOf, Plays, Knowing, Knows}
+use Rattle.mx_front.specs.Queue.{Line, IsHome, Waiting}
+use Rattle.mx_front.specs.World.{Slot, Core, World, words_of, Kept, Standing, Stocked, Good, InTurn, Queued, PenOf, Plays, Knowing, Knows}
 use Rattle.mx_front.specs.Told.{Sat, claimed, came, looking, looked, read_next, longer, learned}
+use Rattle.mx_front.proofs.Queues.{turn_cases, claimed_line, other_ticket, came_line, left_line}
 use Rattle.mx_front.proofs.Worlds.{change, change_here, change_else, passed_le, held_few, begins_longer, begins_one}
-
--- whether a turn is that of a ticket which is awaited
-abbrev awaited : Turn → ℕ
-awaited Idle = 0
-awaited (Waits t) = suc t
-awaited (Has t) = 0
-
-turn_cases : (turn : Turn) (n : ℕ) → (turn ≡ Waits n) ⊎ (turn ≢ Waits n)
-turn_cases Idle n = inr (λ e. let h : 0 ≡ suc n = ap awaited e in omega arith)
-turn_cases (Waits t) n = elim (cases_eq t n) [
-  | inl is ↦ inl (ap (λ i. let x : Turn = Waits i in x) is)
-  | inr not ↦ inr (λ e. let h : suc t ≡ suc n = ap awaited e in not (omega arith))
-]
-turn_cases (Has t) n = inr (λ e. let h : 0 ≡ suc n = ap awaited e in omega arith)
 
 -- the room that is set apart after a turn
 abbrev pub room_after : Role → (ℕ → ℕ) → List ℕ → ℕ → ℕ
@@ -58,51 +46,30 @@ module _ {I : Type 0} where
   at_home lanes h room (maybe.some (Some b)) home s = record { book = b; is = refl; stands = s }
 
   -- what a seat knows of the queue, when another seat takes a ticket, takes the book, changes what it stands for, or gives it back
-  claimed_others : (lanes : ℕ) (l : Line I) (h : List (Stored I)) (room : ℕ → ℕ) (j id old : ℕ) (all : List (Stored I)) (spares : List ℕ) (turn : Turn) → l.ticket ≡ old
+  claimed_others : (lanes : ℕ) (l : Line (Held I)) (h : List (Stored I)) (room : ℕ → ℕ) (j id old : ℕ) (all : List (Stored I)) (spares : List ℕ) (turn : Turn) → l.ticket ≡ old
       → Queued lanes l h room j all spares turn → Queued lanes (record l { ticket = old + 1; ticket_of = change l.ticket_of old id }) h room j all spares turn
   claimed_others lanes l h room j id old all spares Idle e q = tt
-  claimed_others lanes l h room j id old all spares (Waits t) e q = record {
-    from = q.from;
-    below = omega (arith, q.below, e);
-    mine = change_else l.ticket_of old id t (λ same. omega (arith, q.below, e, same)) ∙ q.mine;
-    home = q.home;
-  }
-  claimed_others lanes l h room j id old all spares (Has t) e q = record {
-    turn = q.turn;
-    below = omega (arith, q.below, e);
-    mine = change_else l.ticket_of old id t (λ same. omega (arith, q.below, e, same)) ∙ q.mine;
-    out = q.out;
-    whole = q.whole;
-    rooms = q.rooms;
-    count = q.count;
-  }
+  claimed_others lanes l h room j id old all spares (Waits t) e q = claimed_line l j id old (Waits t) e q
+  claimed_others lanes l h room j id old all spares (Has t) e q = record { queue = claimed_line l j id old (Has t) e q.queue; whole = q.whole; rooms = q.rooms; count = q.count }
 
-  other_ticket : (l : Line I) (j id t : ℕ) → j ≢ id → l.ticket_of l.serving ≡ id → l.ticket_of t ≡ j → t ≢ l.serving
-  other_ticket l j id t ne is mine same = ne (sym mine ∙ ap l.ticket_of same ∙ is)
-
-  came_others : (lanes : ℕ) (l : Line I) (h : List (Stored I)) (room : ℕ → ℕ) (j id : ℕ) (all : List (Stored I)) (spares : List ℕ) (turn : Turn) → j ≢ id → l.ticket_of l.serving ≡ id
+  came_others : (lanes : ℕ) (l : Line (Held I)) (h : List (Stored I)) (room : ℕ → ℕ) (j id : ℕ) (all : List (Stored I)) (spares : List ℕ) (turn : Turn) → j ≢ id → l.ticket_of l.serving ≡ id
       → Queued lanes l h room j all spares turn → Queued lanes (record l { slot = maybe.none }) h room j all spares turn
   came_others lanes l h room j id all spares Idle ne is q = tt
-  came_others lanes l h room j id all spares (Waits t) ne is q = record { from = q.from; below = q.below; mine = q.mine; home = λ e. absurd (other_ticket l j id t ne is q.mine e) }
-  came_others lanes l h room j id all spares (Has t) ne is q = absurd (other_ticket l j id t ne is q.mine q.turn)
+  came_others lanes l h room j id all spares (Waits t) ne is q = came_line l j id (Waits t) ne is q
+  came_others lanes l h room j id all spares (Has t) ne is q = absurd (other_ticket l j id t ne is q.queue.mine q.queue.turn)
 
-  pub changed_others : (lanes : ℕ) (l : Line I) (h g : List (Stored I)) (room rooms : ℕ → ℕ) (j id : ℕ) (all : List (Stored I)) (spares : List ℕ) (turn : Turn) → j ≢ id → l.ticket_of l.serving ≡ id
+  pub changed_others : (lanes : ℕ) (l : Line (Held I)) (h g : List (Stored I)) (room rooms : ℕ → ℕ) (j id : ℕ) (all : List (Stored I)) (spares : List ℕ) (turn : Turn) → j ≢ id → l.ticket_of l.serving ≡ id
       → Queued lanes l h room j all spares turn → Queued lanes l g rooms j all spares turn
   changed_others lanes l h g room rooms j id all spares Idle ne is q = tt
   changed_others lanes l h g room rooms j id all spares (Waits t) ne is q = q
-  changed_others lanes l h g room rooms j id all spares (Has t) ne is q = absurd (other_ticket l j id t ne is q.mine q.turn)
+  changed_others lanes l h g room rooms j id all spares (Has t) ne is q = absurd (other_ticket l j id t ne is q.queue.mine q.queue.turn)
 
-  pub left_others : (lanes : ℕ) (l : Line I) (h : List (Stored I)) (room rooms : ℕ → ℕ) (j id t : ℕ) (b : Held I) (all : List (Stored I)) (spares : List ℕ) (turn : Turn) → j ≢ id
+  pub left_others : (lanes : ℕ) (l : Line (Held I)) (h : List (Stored I)) (room rooms : ℕ → ℕ) (j id t : ℕ) (b : Held I) (all : List (Stored I)) (spares : List ℕ) (turn : Turn) → j ≢ id
       → l.ticket_of l.serving ≡ id → t ≡ l.serving → Queued lanes l h room j all spares turn
       → Queued lanes (record l { serving = t + 1; slot = maybe.some (Some b) }) h rooms j all spares turn
   left_others lanes l h room rooms j id t b all spares Idle ne is at q = tt
-  left_others lanes l h room rooms j id t b all spares (Waits u) ne is at q = record {
-    from = let other : u ≢ l.serving = other_ticket l j id u ne is q.mine in omega (arith, q.from, at);
-    below = q.below;
-    mine = q.mine;
-    home = λ e. tt;
-  }
-  left_others lanes l h room rooms j id t b all spares (Has u) ne is at q = absurd (other_ticket l j id u ne is q.mine q.turn)
+  left_others lanes l h room rooms j id t b all spares (Waits u) ne is at q = left_line l j id t b (Waits u) ne is at q
+  left_others lanes l h room rooms j id t b all spares (Has u) ne is at q = absurd (other_ticket l j id u ne is q.queue.mine q.queue.turn)
 
 module _ {I : Type 0} (key : Key) where
   pub pen_is : (w : Core I) (id : ℕ) (v : View I) (k : ℕ) → Knowing key w id v → v.who ≡ Pen k → PenOf key w id v.own v.block v.reserve v.read v.fresh k
@@ -215,7 +182,7 @@ module _ {I : Type 0} (law : Law I) (key : Key) where
             };
             mine = record {
               core = record { bound = k.core.bound; sees = k.core.sees; hears = k.core.hears; reads = k.core.reads; plays = k.core.plays };
-              queued = record { turn = refl; below = q.below; mine = q.mine; out = refl; whole = refl; rooms = b.stands.rooms; count = b.stands.count };
+              queued = record { queue = record { turn = refl; below = q.below; mine = q.mine; out = refl }; whole = refl; rooms = b.stands.rooms; count = b.stands.count };
             };
             others = λ j x ne q'. record { core = q'.core; queued = came_others key.writers w.line w.core.state.history w.core.room j id x.all x.spares x.turn ne q.mine q'.queued };
             words = refl;
@@ -237,7 +204,7 @@ module _ {I : Type 0} (law : Law I) (key : Key) where
   pub looks : (slots t : ℕ) (w : World I) (id : ℕ) (v : View I) (c : List (ℕ × Slot I)) → v.turn ≡ Has t → Good law key w → Knows key w id v
       → Goes w id c 3 (length w.core.state.history) (looked law (step slots 3 0 0 maybe.none) (v, c) (length w.core.state.history))
   looks slots t w id v c is good k =
-      let q : Having key.writers w.line w.core.state.history w.core.room id v.all v.spares t = turn_is key w id v (Has t) k is in
+      let q : InTurn key.writers w.line w.core.state.history w.core.room id v.all v.spares t = turn_is key w id v (Has t) k is in
       let s = w.core.state in
       let kept = good.kept in record {
         to = w;

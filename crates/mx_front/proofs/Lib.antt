@@ -5,3 +5,4 @@ pub mod Allowed
 pub mod Seats
 pub mod Meetings
 pub mod Openings
+pub mod Queues

@@ -18,7 +18,8 @@ use Rattle.mx_front.specs.declared.view.Role.{Role}
 use Rattle.mx_front.specs.declared.view.Role.TheVariants.{Reader, Maker, Pen}
 use Rattle.mx_front.specs.declared.view.Turn.TheVariants.{Has}
 use Rattle.mx_front.specs.declared.view.View.{View}
-use Rattle.mx_front.specs.World.{Slot, Line, Core, World, Stocked, Good, Having, Queued, PenOf, Plays, Knows}
+use Rattle.mx_front.specs.Queue.{Line}
+use Rattle.mx_front.specs.World.{Slot, Core, World, Stocked, Good, InTurn, Queued, PenOf, Plays, Knows}
 use Rattle.mx_front.specs.Told.{block_at, drawing, drew, storing, put, reserve_in, leaving, left}
 use Rattle.mx_front.proofs.Worlds.{change, change_here, change_else, passing, stored_own, length_own}
 use Rattle.mx_front.proofs.Goes.{Goes, room_after, changed_others, left_others, pen_is, turn_is, plays_on, few_drawn}
@@ -179,7 +180,7 @@ module _ {I : Type 0} (law : Law I) (key : Key) where
   puts slots t n w id v x b turn who block lawful stands count lanes spent others good k =
       let pk : ℕ = x.writer in
       let p = pen_is key w.core id v pk k.core who in
-      let q : Having key.writers w.line w.core.state.history w.core.room id v.all v.spares t = turn_is key w id v (Has t) k turn in
+      let q : InTurn key.writers w.line w.core.state.history w.core.room id v.all v.spares t = turn_is key w id v (Has t) k turn in
       let s = w.core.state in
       let kept = good.kept in
       let inside : pk < length s.held = omega (arith, p.made, good.most, kept.writers) in
@@ -188,7 +189,7 @@ module _ {I : Type 0} (law : Law I) (key : Key) where
       let room' = change w.core.room pk (v.reserve - length x.items) in
       let to : Core I = record w.core { state = s'; room = room' } in
       let u : View I = storing v x b in
-      let served : w.line.ticket_of w.line.serving ≡ id = ap w.line.ticket_of (sym q.turn) ∙ q.mine in
+      let served : w.line.ticket_of w.line.serving ≡ id = ap w.line.ticket_of (sym q.queue.turn) ∙ q.queue.mine in
       let more : v.all ++ x ∷ [] ≡ s.history ++ x ∷ [] = ap (λ l. l ++ x ∷ []) q.whole in
       let fits : length x.items ≤ v.reserve = omega (arith, p.within, ap count_of block) in record {
         to = record w { core = to };
@@ -223,7 +224,7 @@ module _ {I : Type 0} (law : Law I) (key : Key) where
                 over = m.over;
                 room = change_else w.core.room pk (v.reserve - length x.items) i other ∙ m.room;
               };
-          stocked = subst (Stocked key.writers s'.history room') (sym q.out) tt;
+          stocked = subst (Stocked key.writers s'.history room') (sym q.queue.out) tt;
         };
         mine = record {
           core = record {
@@ -242,10 +243,7 @@ module _ {I : Type 0} (law : Law I) (key : Key) where
             });
           };
           queued = subst (Queued key.writers w.line s'.history room' id u.all u.spares) (sym turn) (record {
-            turn = q.turn;
-            below = q.below;
-            mine = q.mine;
-            out = q.out;
+            queue = q.queue;
             whole = more;
             rooms = λ i. elim (cases_eq i pk) [
               | inl same ↦
@@ -289,19 +287,19 @@ module _ {I : Type 0} (law : Law I) (key : Key) where
       → ((i : ℕ) → get_or v.spares i 0 ≤ get_or b.spare i 0) → Good law key w → Knows key w id v
       → Goes law key w id ((0, Some b) ∷ []) 1 (t + 1) (left (step slots 1 (t + 1) 0 maybe.none) (v, (0, Some b) ∷ []) (t + 1))
   leaves slots t w id v b turn stands lanes spares good k =
-      let q : Having key.writers w.line w.core.state.history w.core.room id v.all v.spares t = turn_is key w id v (Has t) k turn in
+      let q : InTurn key.writers w.line w.core.state.history w.core.room id v.all v.spares t = turn_is key w id v (Has t) k turn in
       let h = w.core.state.history in
-      let served : w.line.ticket_of w.line.serving ≡ id = ap w.line.ticket_of (sym q.turn) ∙ q.mine in
+      let served : w.line.ticket_of w.line.serving ≡ id = ap w.line.ticket_of (sym q.queue.turn) ∙ q.queue.mine in
       let rooms : (i : ℕ) → w.core.room i ≤ get_or b.spare i 0 = λ i. omega (arith, q.rooms i, spares i) in
       let room' = room_after v.who w.core.room b.spare in
       let to : Core I = record w.core { room = room' } in
-      let l : Line I = record w.line { serving = t + 1; slot = maybe.some (Some b) } in record {
+      let l : Line (Held I) = record w.line { serving = t + 1; slot = maybe.some (Some b) } in record {
         to = record { line = l; core = to };
         view = leaving v b;
         act = gives;
         valid = tt;
         good = record {
-          ordered = omega (arith, q.below);
+          ordered = omega (arith, q.queue.below);
           ready = λ e. tt;
           kept = good.kept;
           most = good.most;
@@ -338,7 +336,7 @@ module _ {I : Type 0} (law : Law I) (key : Key) where
                   value = r.value;
                 }) y.who o.core.plays;
           };
-          queued = left_others key.writers w.line h w.core.room room' j id t b y.all y.spares y.turn ne served q.turn o.queued;
+          queued = left_others key.writers w.line h w.core.room room' j id t b y.all y.spares y.turn ne served q.queue.turn o.queued;
         };
         words = refl;
         homes = refl;

@@ -1,3 +1,4 @@
+pub mod Queue
 pub mod World
 pub mod Told
 pub mod Turns

@@ -16,17 +16,11 @@ use Rattle.mx_front.specs.declared.view.Role.TheVariants.{Reader, Maker, Pen}
 use Rattle.mx_front.specs.declared.view.Turn.{Turn}
 use Rattle.mx_front.specs.declared.view.Turn.TheVariants.{Idle, Waits, Has}
 use Rattle.mx_front.specs.declared.view.View.{View}
+use Rattle.mx_front.specs.Queue.{Line, IsHome, Waiting, Having}
 
 -- what the slot holds: the book
 abbrev pub Slot : Type 0 → Type 0
 Slot I = Option (Held I)
-
--- the queue for the book: the next ticket, the ticket that is served, the slot, and the seat of each ticket
-pub record Line (I : Type 0) : Type 0 where
-  pub ticket : ℕ
-  pub serving : ℕ
-  pub slot : maybe.Option (Slot I)
-  pub ticket_of : ℕ → ℕ
 
 -- the machine of positions and its pens: the seat of each pen, the seat that makes pens and how many it has made, the pens whose last draw ended at the stop or past it, and the room that is set apart for each pen
 pub record Core (I : Type 0) : Type 0 where
@@ -38,7 +32,7 @@ pub record Core (I : Type 0) : Type 0 where
   pub room : ℕ → ℕ
 
 pub record World (I : Type 0) : Type 0 where
-  pub line : Line I
+  pub line : Line (Held I)
   pub core : Core I
 
 abbrev pub words_of : {I : Type 0} → World I → List ℕ
@@ -52,10 +46,6 @@ one_if false = 0
 abbrev pub passed : (ℕ → Bool) → ℕ → ℕ
 passed over zero = 0
 passed over (suc n) = one_if (over n) + passed over n
-
-abbrev pub IsHome : {A : Type 0} → maybe.Option A → Type 0
-IsHome maybe.none = ⊥
-IsHome (maybe.some x) = Unit {0}
 
 -- the machine is reached by a run, its blocks are short, and each draw that ended at the stop or past it was its writer's last
 pub record Kept {I : Type 0} (law : Law I) (key : Key) (s : State I) (over : ℕ → Bool) : Type 0 where
@@ -97,27 +87,17 @@ pub record Good {I : Type 0} (law : Law I) (key : Key) (w : World I) : Type 0 wh
   pub unmade : (k : ℕ) → w.core.made ≤ k → Unmade w.core k
   pub stocked : Stocked key.writers w.core.state.history w.core.room w.line.slot
 
--- a seat waits with a ticket: the book is at home when it is served
-pub record Waiting {I : Type 0} (l : Line I) (j t : ℕ) : Type 0 where
-  pub from : l.serving ≤ t
-  pub below : t < l.ticket
-  pub mine : l.ticket_of t ≡ j
-  pub home : t ≡ l.serving → IsHome l.slot
-
 -- a seat has the turn, with the book: it knows the history and the room of each lane
-pub record Having {I : Type 0} (lanes : ℕ) (l : Line I) (h : List (Stored I)) (room : ℕ → ℕ) (j : ℕ) (all : List (Stored I)) (spares : List ℕ) (t : ℕ) : Type 0 where
-  pub turn : t ≡ l.serving
-  pub below : t < l.ticket
-  pub mine : l.ticket_of t ≡ j
-  pub out : l.slot ≡ maybe.none
+pub record InTurn {I : Type 0} (lanes : ℕ) (l : Line (Held I)) (h : List (Stored I)) (room : ℕ → ℕ) (j : ℕ) (all : List (Stored I)) (spares : List ℕ) (t : ℕ) : Type 0 where
+  pub queue : Having l j t
   pub whole : all ≡ h
   pub rooms : (k : ℕ) → room k ≤ slice_index spares k
   pub count : length spares ≡ lanes
 
-abbrev pub Queued : {I : Type 0} → ℕ → Line I → List (Stored I) → (ℕ → ℕ) → ℕ → List (Stored I) → List ℕ → Turn → Type 0
+abbrev pub Queued : {I : Type 0} → ℕ → Line (Held I) → List (Stored I) → (ℕ → ℕ) → ℕ → List (Stored I) → List ℕ → Turn → Type 0
 Queued lanes l h room j all spares Idle = Unit {0}
 Queued lanes l h room j all spares (Waits t) = Waiting l j t
-Queued lanes l h room j all spares (Has t) = Having lanes l h room j all spares t
+Queued lanes l h room j all spares (Has t) = InTurn lanes l h room j all spares t
 
 -- a seat is the pen of a writer: it knows all stores of the writer, its block and its room, and has read the stop where the writer is past it
 pub record PenOf {I : Type 0} (key : Key) (w : Core I) (j : ℕ) (mine : List (Stored I)) (held : Option Block) (reserve read : ℕ) (fresh : Bool) (k : ℕ) : Type 0 where

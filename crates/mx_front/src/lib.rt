@@ -16,7 +16,7 @@ mod writing;
 
 pub use front::Stream;
 pub use handles::{Drawn, Full, Pass, Pen};
-pub use laws::{seats_see_one_history, steps_keep_history};
-pub use queue::Owed;
+pub use laws::{seats_see_one_history, steps_keep_history, streams_cross_threads};
+pub use queue::{Owed, claim, come};
 pub use start::stream;
 pub use view::{Role, Turn, View};

@@ -3,64 +3,21 @@
 ghost use Rattle.std.specs.Prelude.{◌≡◌, ◌+◌, ◌^◌, ◌<◌, ◌≤◌, [], ◌∷◌, None, length, slice_index, IfOk, OnOk};
 ghost use Rattle.mx_lanes.specs.Held.{Held};
 ghost use Rattle.mx_lanes.specs.Parts.{IsUpTo};
-ghost use Rattle.mx_front.specs.declared.view.Turn.TheVariants.{Waits};
-ghost use Rattle.mx_front.specs.Told.{Came, leaving};
+ghost use Rattle.mx_front.specs.Told.{leaving};
 ghost use Rattle.mx_front.specs.Turns.{holding, HasBook, Entered, Seized, Ready, Stores, Grown, MayLeave};
 
-use crate::board::{COUNT, Place, SERVING, TICKET};
+use crate::board::{COUNT, Key, Order, Place, SERVING, TICKET};
 use crate::front::Stream;
 use crate::plays;
-use crate::queue::Owed;
+use crate::queue::{Owed, claim, come};
+use crate::view::View;
 use mx_core::Placed;
 use mx_ids::{Copied, Memory, Seq};
 use mx_lanes::{Book, Parts};
 use std::alloc::Global;
 use std::sync::Wait;
-use std::thread::yield_now;
 
 impl<I: Placed + Drop> Stream<I> {
-    /// Takes the next ticket.
-    fn claim<R: Wait>(&self, rt: &R, seat: &mut Place<I>) -> u64
-        requires table { seat.old.table_id ≡ self.now.table.shared.table_id }
-        ensures table { seat.new.table_id ≡ seat.old.table_id }
-        ensures claimed { seat.new.me ≡ (record seat.old.me.0 { turn = Waits result }, seat.old.me.1) }
-        ensures below { result + 1 < 2 ^ 64 }
-    {
-        let top = &self.table.shared;
-        'tries: for _ in rt.forever() {
-            let ticket = top.peek(TICKET);
-            if ticket < u64::MAX {
-                let found = top.compare_exchange::<plays::Claimed>(
-                    seat,
-                    TICKET,
-                    ticket,
-                    ticket + 1,
-                );
-                if found == ticket {
-                    return ticket;
-                }
-            }
-        }
-        unreachable!()
-    }
-
-    /// Waits until a ticket is served, and takes the book.
-    fn come<R: Wait>(&self, rt: &R, seat: &mut Place<I>, ticket: u64)
-        requires table { seat.old.table_id ≡ self.now.table.shared.table_id }
-        requires waits { seat.old.me.0.turn ≡ Waits ticket }
-        ensures table { seat.new.table_id ≡ seat.old.table_id }
-        ensures came { Came seat.old.me ticket seat.new.me }
-    {
-        let top = &self.table.shared;
-        'looks: for _ in rt.forever() {
-            if top.load::<plays::Came>(seat, SERVING) == ticket {
-                return;
-            }
-            yield_now();
-        }
-        unreachable!()
-    }
-
     /// Waits for a turn, and takes the book.
     pub(crate) fn enter<R: Wait>(&self, rt: &R, seat: &mut Place<I>) -> Owed
         requires table { seat.old.table_id ≡ self.now.table.shared.table_id }
@@ -68,8 +25,10 @@ impl<I: Placed + Drop> Stream<I> {
         ensures table { seat.new.table_id ≡ seat.old.table_id }
         ensures entered { Entered seat.old.me.0 result.ticket seat.new.me }
     {
-        let ticket = self.claim(rt, seat);
-        self.come(rt, seat, ticket);
+        let top = &self.table.shared;
+        let ticket =
+            claim::<plays::Claimed, Option<Book<I>>, View<I>, Key, Order, R>(rt, top, seat, TICKET);
+        come::<plays::Came, Option<Book<I>>, View<I>, Key, Order, R>(rt, top, seat, SERVING, ticket);
         Owed { ticket }
     }
 

@@ -2,6 +2,11 @@
 
 ghost use Rattle.mx_lanes.specs.Laws.{OneHistory, OneStoreMore, StandsStill, UpToFront};
 
+use crate::book::Book;
+use crate::parts::Parts;
+use crate::shared::Shared;
+use mx_core::crosses_threads;
+
 /// A book stands for one history: the stores by which it goes beyond a history are known by the book.
 pub fn book_stands_for_one_history<I>()
     ensures { OneHistory I }
@@ -21,3 +26,10 @@ pub fn book_stands_still<I>()
 pub fn parts_are_covered<I>()
     ensures { UpToFront I }
 {}
+
+/// A book, its parts and what they share cross threads where the items do.
+pub fn books_cross_threads<I: Drop + Send + Sync>() {
+    crosses_threads::<Book<I>>();
+    crosses_threads::<Parts<I>>();
+    crosses_threads::<Shared<I>>();
+}

@@ -14,7 +14,7 @@ mod shelving;
 pub use book::Book;
 pub use laws::{
     book_stands_for_one_history, book_stands_still, book_stands_with_one_store_more,
-    parts_are_covered,
+    books_cross_threads, parts_are_covered,
 };
 pub use parts::Parts;
 pub use shared::Shared;

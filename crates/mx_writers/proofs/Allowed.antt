@@ -10,7 +10,8 @@ use Rattle.atomic_table.specs.Table.{step, Allows, Enters, Valid, homes_after, c
 use Rattle.atomic_table.proofs.Lists.{at_set, at_snoc}
 use Rattle.mx_front.specs.declared.view.Turn.TheVariants.{Has}
 use Rattle.mx_writers.specs.declared.view.Ask.{Ask}
-use Rattle.mx_writers.specs.Locks.{Line, words_of, slots_of, Fits, IsGood, Knows, AreGood, Locked, resting}
+use Rattle.mx_front.specs.Queue.{Line}
+use Rattle.mx_writers.specs.Locks.{words_of, slots_of, Fits, IsGood, Knows, AreGood, Locked, resting}
 use Rattle.mx_writers.specs.Tells.{Sat, entered, claimed, came, left}
 use Rattle.mx_writers.proofs.Lines.{double, double_is}
 use Rattle.mx_writers.proofs.Goes.{Goes, claims, comes, leaves}

@@ -11,26 +11,13 @@ use Rattle.atomic_table.specs.Table.{step, Act, keeps, takes, gives, carried_aft
 use Rattle.atomic_table.proofs.Lists.{at_set, set_else, exchanged}
 use Rattle.mx_front.specs.declared.view.Turn.{Turn}
 use Rattle.mx_front.specs.declared.view.Turn.TheVariants.{Idle, Waits, Has}
-use Rattle.mx_front.specs.World.{IsHome}
-use Rattle.mx_front.proofs.Worlds.{change, change_here, change_else}
+use Rattle.mx_front.specs.Queue.{Line, IsHome, InLine}
+use Rattle.mx_front.proofs.Queues.{turn_cases, claimed_line, came_line, left_line}
+use Rattle.mx_front.proofs.Worlds.{change, change_here}
 use Rattle.mx_writers.specs.declared.view.Ask.{Ask}
-use Rattle.mx_writers.specs.Locks.{Line, words_of, slots_of, Fits, IsGood, InLine, InQueue, Asks, Knows, AreGood}
+use Rattle.mx_writers.specs.Locks.{words_of, slots_of, Fits, IsGood, InQueue, Asks, Knows, AreGood}
 use Rattle.mx_writers.specs.Tells.{Sat, claimed, came, left}
 use Rattle.mx_writers.proofs.Lines.{double, double_is, set_there, there, ticket_at, serving_at, ticket_set, serving_set, slot_at, slot_set, slot_same}
-
--- whether a turn is that of a ticket which is awaited
-abbrev awaited : Turn → ℕ
-awaited Idle = 0
-awaited (Waits t) = suc t
-awaited (Has t) = 0
-
-turn_cases : (turn : Turn) (n : ℕ) → (turn ≡ Waits n) ⊎ (turn ≢ Waits n)
-turn_cases Idle n = inr (λ e. let h : 0 ≡ suc n = ap awaited e in omega arith)
-turn_cases (Waits t) n = elim (cases_eq t n) [
-  | inl is ↦ inl (ap (λ i. let x : Turn = Waits i in x) is)
-  | inr not ↦ inr (λ e. let h : suc t ≡ suc n = ap awaited e in not (omega arith))
-]
-turn_cases (Has t) n = inr (λ e. let h : 0 ≡ suc n = ap awaited e in omega arith)
 
 module _ {T : Type 0} where
   -- a shard at home
@@ -43,41 +30,6 @@ module _ {T : Type 0} where
   at_home P maybe.none home f = absurd home
   at_home P (maybe.some None) home f = absurd f
   at_home P (maybe.some (Some x)) home f = record { shard = x; is = refl; fits = f }
-
-  -- what a seat knows of a queue, when another seat takes a ticket, takes the shard, or gives it back
-  claimed_others : (l : Line T) (j id old : ℕ) (turn : Turn) → l.ticket ≡ old → InLine l j turn → InLine (record l { ticket = old + 1; ticket_of = change l.ticket_of old id }) j turn
-  claimed_others l j id old Idle e q = tt
-  claimed_others l j id old (Waits t) e q = record {
-    from = q.from;
-    below = omega (arith, q.below, e);
-    mine = change_else l.ticket_of old id t (λ same. omega (arith, q.below, e, same)) ∙ q.mine;
-    home = q.home;
-  }
-  claimed_others l j id old (Has t) e q = record {
-    turn = q.turn;
-    below = omega (arith, q.below, e);
-    mine = change_else l.ticket_of old id t (λ same. omega (arith, q.below, e, same)) ∙ q.mine;
-    out = q.out;
-  }
-
-  other_ticket : (l : Line T) (j id t : ℕ) → j ≢ id → l.ticket_of l.serving ≡ id → l.ticket_of t ≡ j → t ≢ l.serving
-  other_ticket l j id t ne is mine same = ne (sym mine ∙ ap l.ticket_of same ∙ is)
-
-  came_others : (l : Line T) (j id : ℕ) (turn : Turn) → j ≢ id → l.ticket_of l.serving ≡ id → InLine l j turn → InLine (record l { slot = maybe.none }) j turn
-  came_others l j id Idle ne is q = tt
-  came_others l j id (Waits t) ne is q = record { from = q.from; below = q.below; mine = q.mine; home = λ e. absurd (other_ticket l j id t ne is q.mine e) }
-  came_others l j id (Has t) ne is q = absurd (other_ticket l j id t ne is q.mine q.turn)
-
-  left_others : (l : Line T) (j id t : ℕ) (x : T) (turn : Turn) → j ≢ id → l.ticket_of l.serving ≡ id → t ≡ l.serving → InLine l j turn
-      → InLine (record l { serving = t + 1; slot = maybe.some (Some x) }) j turn
-  left_others l j id t x Idle ne is at q = tt
-  left_others l j id t x (Waits u) ne is at q = record {
-    from = let other : u ≢ l.serving = other_ticket l j id u ne is q.mine in omega (arith, q.from, at, other);
-    below = q.below;
-    mine = q.mine;
-    home = λ e. tt;
-  }
-  left_others l j id t x (Has u) ne is at q = absurd (other_ticket l j id u ne is q.mine q.turn)
 
   -- where one queue changes, a seat stands in the others as before
   queue_on : (ls : List (Line T)) (j k w : ℕ) (l to : Line T) (turn : Turn) → get_elem? ls k ≡ maybe.some l → (InLine l j turn → InLine to j turn) → InQueue ls j w turn → InQueue (set ls k to) j w turn
@@ -165,7 +117,7 @@ module _ {T : Type 0} (P : ℕ → TableId → T → Type 0) (at : TableId) wher
                 };
               };
             };
-            others = others_on ls id k l to e (λ j turn ne. claimed_others l j id old turn was);
+            others = others_on ls id k l to e (λ j turn ne. claimed_line l j id old turn was);
             words = ticket_set ls k (old + 1) l to e refl refl;
             homes = slot_same ls k l to e refl;
             tells = (λ found j word. ap (λ x. (record v { turn = Waits w; writer = x }, c)) (let d : 2 * k ≡ double k = double_is k in omega (arith, d, word)), λ miss. absurd (miss hit));
@@ -202,7 +154,7 @@ module _ {T : Type 0} (P : ℕ → TableId → T → Type 0) (at : TableId) wher
               stream = knows.stream;
               asks = record { line = to; at = set_there ls k l to q.at; is = record { turn = serves; below = q.is.below; mine = q.is.mine; out = refl } };
             };
-            others = others_on ls id k l to q.at (λ j turn ne. came_others l j id turn ne mine);
+            others = others_on ls id k l to q.at (λ j turn ne. came_line l j id turn ne mine);
             words = serving_set ls k w l to q.at serves refl;
             homes = slot_set ls k to;
             tells = (λ e. record { shard = b.shard; is = refl; fits = subst (λ a. P k a b.shard) (sym knows.stream) b.fits }, λ not. absurd (not is));
@@ -227,7 +179,7 @@ module _ {T : Type 0} (P : ℕ → TableId → T → Type 0) (at : TableId) wher
             valid = tt;
             good = good_on ls k to good (record { ordered = omega (arith, q.is.below); ready = λ same. tt; fits = subst (λ a. P k a x) knows.stream fits });
             mine = record { stream = knows.stream; asks = tt };
-            others = others_on ls id k l to q.at (λ j turn ne. left_others l j id t x turn ne mine q.is.turn);
+            others = others_on ls id k l to q.at (λ j turn ne. left_line l j id t x turn ne mine q.is.turn);
             words = serving_set ls k (t + 1) l to q.at refl refl;
             homes = slot_set ls k to;
             tells = λ y e. refl;

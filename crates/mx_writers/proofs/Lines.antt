@@ -3,7 +3,8 @@ use Rattle.std.proofs.Common.{◌≡◌, ℕ, zero, suc, ◌*◌, ◌<◌, List,
 use mathlib.Core.Option as maybe
 use mathlib.Core.Option.{some-ne-none, some-injective}
 use lib.ListN.{get_elem?}
-use Rattle.mx_writers.specs.Locks.{Line, words_of, slots_of}
+use Rattle.mx_front.specs.Queue.{Line}
+use Rattle.mx_writers.specs.Locks.{words_of, slots_of}
 
 abbrev pub double : ℕ → ℕ
 double zero = zero

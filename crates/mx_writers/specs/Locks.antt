@@ -6,15 +6,8 @@ use Rattle.atomic_table.specs.Seated.{TableId}
 use Rattle.atomic_table.specs.Table as table
 use Rattle.mx_front.specs.declared.view.Turn.{Turn}
 use Rattle.mx_front.specs.declared.view.Turn.TheVariants.{Idle, Waits, Has}
-use Rattle.mx_front.specs.World.{IsHome}
+use Rattle.mx_front.specs.Queue.{Line, IsHome, InLine}
 use Rattle.mx_writers.specs.declared.view.Ask.{Ask}
-
--- the queue for one writer's shard: the next ticket, the ticket that is served, the slot, and the seat of each ticket
-pub record Line (T : Type 0) : Type 0 where
-  pub ticket : ℕ
-  pub serving : ℕ
-  pub slot : maybe.Option (Option T)
-  pub ticket_of : ℕ → ℕ
 
 abbrev pub words_of : {T : Type 0} → List (Line T) → List ℕ
 words_of [] = []
@@ -34,25 +27,6 @@ pub record IsGood {T : Type 0} (P : T → Type 0) (l : Line T) : Type 0 where
   -- where nobody waits the shard is at home
   pub ready : l.serving ≡ l.ticket → IsHome l.slot
   pub fits : Fits P l.slot
-
--- a seat waits with a ticket: the shard is at home when it is served
-pub record Waiting {T : Type 0} (l : Line T) (j t : ℕ) : Type 0 where
-  pub from : l.serving ≤ t
-  pub below : t < l.ticket
-  pub mine : l.ticket_of t ≡ j
-  pub home : t ≡ l.serving → IsHome l.slot
-
--- a seat has the turn, with the shard
-pub record Having {T : Type 0} (l : Line T) (j t : ℕ) : Type 0 where
-  pub turn : t ≡ l.serving
-  pub below : t < l.ticket
-  pub mine : l.ticket_of t ≡ j
-  pub out : l.slot ≡ maybe.none
-
-abbrev pub InLine : {T : Type 0} → Line T → ℕ → Turn → Type 0
-InLine l j Idle = Unit {0}
-InLine l j (Waits t) = Waiting l j t
-InLine l j (Has t) = Having l j t
 
 -- the seat j stands so in the queue of the writer k
 pub record InQueue {T : Type 0} (ls : List (Line T)) (j k : ℕ) (turn : Turn) : Type 0 where

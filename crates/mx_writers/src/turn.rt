@@ -1,19 +1,19 @@
 //! The turn of a writer's shard: a ticket, the shard in hand, and the end of the turn.
 
 ghost use Rattle.std.specs.Prelude.{◌≡◌, ◌+◌, ◌*◌, ◌^◌, ◌<◌, [], ◌∷◌, None, Some};
-ghost use Rattle.mx_front.specs.declared.view.Turn.TheVariants.{Waits, Has};
+ghost use Rattle.mx_front.specs.declared.view.Turn.TheVariants.{Has};
 ghost use Rattle.mx_front.specs.Shown.{place_of, writers_of};
 ghost use Rattle.mx_writers.specs.Locks.{resting};
 ghost use Rattle.mx_writers.specs.Shown.{IsShardOf};
-ghost use Rattle.mx_writers.specs.Tells.{Came, HasTurn};
+ghost use Rattle.mx_writers.specs.Tells.{HasTurn};
 
-use crate::board::Place;
+use crate::board::{Guard, Place};
 use crate::folds::Folds;
 use crate::plays;
 use crate::shards::{Shard, Writers};
-use mx_front::Owed;
+use crate::view::Ask;
+use mx_front::{Owed, Stream, claim, come};
 use std::sync::Wait;
-use std::thread::yield_now;
 
 /// The word of a writer's next ticket.
 fn ticket_word(writer: u8) -> usize
@@ -30,60 +30,37 @@ fn serving_word(writer: u8) -> usize
 }
 
 impl<F: Folds> Writers<F> {
-    /// A new seat takes the next ticket of a writer.
-    fn claim<R: Wait>(&self, rt: &R, writer: u8) -> (u64, Place<F>)
-        requires writer { writer < writers_of self.now.stream }
-        ensures table { result.1.table_id ≡ self.now.table.shared.table_id }
-        ensures claimed { result.1.me ≡ (record (resting (place_of self.now.stream)) { turn = Waits result.0; writer = writer }, []) }
-        ensures below { result.0 + 1 < 2 ^ 64 }
+    /// A new seat, which waits for nothing.
+    fn new_seat(&self) -> Place<F>
+        requires writer { 0 < writers_of self.now.stream }
+        ensures table { result.table_id ≡ self.now.table.shared.table_id }
+        ensures rests { result.me ≡ (resting (place_of self.now.stream), []) }
     {
-        let top = &self.table.shared;
-        let word = ticket_word(writer);
-        let (_, mut seat) = top.load_new_seat::<plays::Entered>(word);
-        'tries: for _ in rt.forever() {
-            let ticket = top.peek(word);
-            if ticket < u64::MAX {
-                let found = top.compare_exchange::<plays::Claimed>(
-                    &mut seat,
-                    word,
-                    ticket,
-                    ticket + 1,
-                );
-                if found == ticket {
-                    return (ticket, seat);
-                }
-            }
-        }
-        unreachable!()
+        self.table.shared.load_new_seat::<plays::Entered>(0).1
     }
 
-    /// Waits until a seat's ticket is served, and takes the shard of its writer.
-    fn come<R: Wait>(&self, rt: &R, seat: &mut Place<F>, writer: u8, ticket: u64)
-        requires table { seat.old.table_id ≡ self.now.table.shared.table_id }
-        requires writer { writer < writers_of self.now.stream }
-        requires waits { (seat.old.me.0.turn ≡ Waits ticket) × (seat.old.me.0.writer ≡ writer) }
-        ensures table { seat.new.table_id ≡ seat.old.table_id }
-        ensures came { Came IsShardOf seat.old.me ticket seat.new.me }
-    {
-        let top = &self.table.shared;
-        let word = serving_word(writer);
-        'looks: for _ in rt.forever() {
-            if top.load::<plays::Came>(seat, word) == ticket {
-                return;
-            }
-            yield_now();
-        }
-        unreachable!()
-    }
-
-    /// Waits for a turn of a writer, and takes its shard in hand.
+    /// A new seat waits for a turn of a writer, and takes its shard in hand.
     pub(crate) fn begin<R: Wait>(&self, rt: &R, writer: u8) -> (Owed, Place<F>)
         requires writer { writer < writers_of self.now.stream }
         ensures table { result.1.table_id ≡ self.now.table.shared.table_id }
         ensures turn { HasTurn IsShardOf (place_of self.now.stream) writer result.0.ticket result.1.me }
     {
-        let (ticket, mut seat) = self.claim(rt, writer);
-        self.come(rt, &mut seat, writer, ticket);
+        let top = &self.table.shared;
+        let word = ticket_word(writer);
+        let mut seat = self.new_seat();
+        let ticket = claim::<plays::Claimed, Option<Shard<F>>, Ask, Stream<F::Item>, Guard<F>, R>(
+            rt,
+            top,
+            &mut seat,
+            word,
+        );
+        come::<plays::Came, Option<Shard<F>>, Ask, Stream<F::Item>, Guard<F>, R>(
+            rt,
+            top,
+            &mut seat,
+            serving_word(writer),
+            ticket,
+        );
         (Owed { ticket }, seat)
     }
 
