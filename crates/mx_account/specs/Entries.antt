@@ -18,6 +18,10 @@ abbrev pub content_of : Entry → Json
 content_of (entry.Data user room kind content at) = content
 content_of (entry.Filter user id filter at) = filter
 
+-- the type of what an entry holds
+abbrev pub kind_of : Entry → List ℕ
+kind_of (entry.Data user room kind content at) = kind
+
 -- the same entry at another position
 abbrev pub placed_at : Entry → ℕ → Entry
 placed_at (entry.Data user room kind content at) position = entry.Data user room kind content position

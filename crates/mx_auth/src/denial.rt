@@ -2,7 +2,7 @@
 ghost use Rattle.std.specs.Prelude.{◌≡◌, [], ◌∷◌, Some, None, MatchResult};
 ghost use Rattle.mx_event.specs.Denied.{denied, first_broken, general_rules, membership_rule};
 
-use crate::kinds::{CREATE, MEMBER, gives, is_of};
+use crate::kinds::{CREATE, MEMBER, gives};
 use crate::membership_rules::{
     breaks_ban, breaks_invite, breaks_join, breaks_leave, breaks_member_form,
 };
@@ -55,9 +55,9 @@ fn first_broken(event: &Event, state: &AuthState) -> Option<u8>
 {
     if breaks_create(event, state) {
         Some(1)
-    } else if is_of(CREATE, event) {
+    } else if event.is_of(CREATE) {
         None
-    } else if !is_of(MEMBER, event) {
+    } else if !event.is_of(MEMBER) {
         general_rule(event, state)
     } else if breaks_member_form(event, state) {
         Some(2)

@@ -7,7 +7,7 @@ ghost use Rattle.mx_event.specs.Denied.{target};
 ghost use Rattle.mx_event.specs.declared.event.Event.{Event};
 ghost use Rattle.mx_auth.specs.Kept.{change_of, membership_at, next_count, waiting_of, HasRoom, IsKept, IsSet, KeysStay};
 
-use crate::kinds::{CREATE, JOIN_RULES, MEMBER, POWER_LEVELS, has_key, is_of, target};
+use crate::kinds::{CREATE, JOIN_RULES, MEMBER, POWER_LEVELS, target};
 use crate::places::{Place, Places};
 use mx_event::Event;
 use mx_ids::{Copied, Memory, Text, UserId};
@@ -73,13 +73,13 @@ pub(crate) struct Waiting {
 fn change_of(alloc: Global, event: &Event) -> Result<Change, Memory>
     ensures { IfOk result (λ c. c ≡ change_of event.now) }
 {
-    if has_key(CREATE, "", event) {
+    if event.has_key(CREATE, "") {
         Ok(Change::Creator(event.sender.copy(alloc)?))
-    } else if has_key(JOIN_RULES, "", event) {
+    } else if event.has_key(JOIN_RULES, "") {
         Ok(Change::JoinRule(text_of(alloc, &event.content, "join_rule")?))
-    } else if has_key(POWER_LEVELS, "", event) {
+    } else if event.has_key(POWER_LEVELS, "") {
         Ok(Change::Powers(event.content.copy(alloc)?))
-    } else if is_of(MEMBER, event) && event.state_key.is_some() {
+    } else if event.is_of(MEMBER) && event.state_key.is_some() {
         Ok(Change::Membership(text_of(alloc, &event.content, "membership")?))
     } else {
         Ok(Change::Nothing)

@@ -1,6 +1,6 @@
 //! What kind of event an event is, and whom it is about.
 ghost use Rattle.std.specs.Prelude.{◌≡◌, option_map};
-ghost use Rattle.mx_event.specs.Kinds.{has_key, is_of, is_text};
+ghost use Rattle.mx_event.specs.Kinds.{is_text};
 ghost use Rattle.mx_event.specs.Denied.{gives, is_own, target};
 
 use mx_event::Event;
@@ -22,20 +22,6 @@ pub(crate) fn is_text(text: &str, found: Option<&Text>) -> bool
         Some(found) => found.as_str() == text,
         None => false,
     }
-}
-
-/// Whether an event is of a type, whatever its state key.
-pub(crate) fn is_of(kind: &str, event: &Event) -> bool
-    ensures { result ≡ is_of kind.now event.now }
-{
-    event.kind.as_str() == kind
-}
-
-/// Whether an event is the state event of a type and a state key.
-pub(crate) fn has_key(kind: &str, key: &str, event: &Event) -> bool
-    ensures { result ≡ has_key kind.now key.now event.now }
-{
-    is_of(kind, event) && is_text(key, event.state_key.as_ref())
 }
 
 /// Whom a member event is about: its state key.

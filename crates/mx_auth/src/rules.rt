@@ -3,23 +3,23 @@
 ghost use Rattle.std.specs.Prelude.{◌≡◌, option_map};
 ghost use Rattle.std.specs.List.{list_any};
 ghost use Rattle.mx_event.specs.Lawful.{has_target};
-ghost use Rattle.mx_event.specs.Shown.{named_id, names};
+ghost use Rattle.mx_event.specs.Shown.{names};
 ghost use Rattle.mx_event.specs.declared.event.Event.{Event};
 ghost use Rattle.mx_event.specs.Denied.{breaks_create, breaks_level, breaks_power_change, breaks_power_form, breaks_redaction, breaks_sender, breaks_user_key, is_of_a_user, names_own};
 
 use crate::changes::{Sender, is_well_formed, passes_own_level};
-use crate::kinds::{CREATE, POWER_LEVELS, is_of, is_own};
+use crate::kinds::{CREATE, POWER_LEVELS, is_own};
 use crate::levels::{level, needed_level, redact_level};
 use crate::membership_rules::{is_joined, reaches};
 use crate::state::AuthState;
 use mx_event::Event;
-use mx_ids::{EventId, Text, read_event_id};
+use mx_ids::Text;
 
 /// Rule 1: a create event that isn't the first event, or another event that is.
 pub(crate) fn breaks_create(event: &Event, state: &AuthState) -> bool
     ensures { result ≡ breaks_create event.now state.now.events }
 {
-    if is_of(CREATE, event) {
+    if event.is_of(CREATE) {
         !state.is_empty()
     } else {
         state.is_empty()
@@ -60,14 +60,14 @@ pub(crate) fn breaks_user_key(event: &Event, state: &AuthState) -> bool
 pub(crate) fn breaks_power_form(event: &Event, state: &AuthState) -> bool
     ensures { result ≡ breaks_power_form event.now state.now.events }
 {
-    is_of(POWER_LEVELS, event) && !is_well_formed(&event.content)
+    event.is_of(POWER_LEVELS) && !is_well_formed(&event.content)
 }
 
 /// Rule 11: power levels that change the standing ones beyond the sender's level.
 pub(crate) fn breaks_power_change(event: &Event, state: &AuthState) -> bool
     ensures { result ≡ breaks_power_change event.now state.now.events }
 {
-    if !is_of(POWER_LEVELS, event) {
+    if !event.is_of(POWER_LEVELS) {
         return false;
     }
     match state.powers() {
@@ -82,23 +82,11 @@ pub(crate) fn breaks_power_change(event: &Event, state: &AuthState) -> bool
     }
 }
 
-/// The event id that a redaction names.
-fn named_id(event: &Event) -> Option<EventId>
-    ensures { result ≡ named_id event.now }
-{
-    if event.is_redaction() {
-        let named = event.content.text_at("redacts")?;
-        read_event_id(named.as_str(), event.sender.server())
-    } else {
-        None
-    }
-}
-
 /// Whether an event names one of the room that its sender sent.
 fn names_own(event: &Event, state: &AuthState) -> bool
     ensures { result ≡ names_own event.now state.now.events }
 {
-    match named_id(event) {
+    match event.named_id() {
         Some(named) => state.has_sent(&event.sender, named.at),
         None => false,
     }
@@ -116,7 +104,7 @@ pub fn has_target(event: &Event, state: &AuthState) -> bool
 fn names_event(event: &Event, state: &AuthState) -> bool
     ensures { result ≡ list_any (λ (e : Event). names event.now e.id.at) state.now.events }
 {
-    match named_id(event) {
+    match event.named_id() {
         Some(named) => state.has_event(named.at),
         None => false,
     }

@@ -3,10 +3,11 @@ use Rattle.std.proofs.Common.{◌≡◌, ◌⊎◌, ℕ, zero, suc, ◌+◌, ◌
 use Rattle.std.specs.List.{slice_get}
 use Rattle.std.specs.Option.{option_or, is_some}
 use Rattle.std.proofs.lemmas.Option.{same_Some}
+use Rattle.std.proofs.Math.Seq.{take-append_seam}
 use Rattle.std.proofs.lemmas.List.{take-append-drop, take-take, length-take-le}
 use Rattle.mx_core.specs.declared.history.Stored.{Stored}
 use Rattle.mx_core.specs.Front.{IsFront}
-use Rattle.mx_core.specs.History.{item_of, item_at, is_stored}
+use Rattle.mx_core.specs.History.{item_of, item_at, is_stored, Begins}
 use Rattle.mx_core.proofs.Histories.{front_below, item_kept, item_of_range, same_front}
 use Rattle.mx_core.specs.Covered.{reach, with_item, covered_from, covered, front_of, CoversToFront, CoversMore}
 
@@ -140,3 +141,11 @@ covers_more n h =
     let stays : item_at h (1 + i) ≡ item_at (take n h) (1 + i) =
     ap (λ l. item_at l (1 + i)) (sym (take-append-drop n h)) ∙ item_kept (take n h) (drop n h) (1 + i) (front.stored (1 + i) (omega arith) (omega (arith, less))) in
     here ∙ sym stays ∙ sym there ∙ sym (slice_get-take ys (length xs) i less))
+
+-- a longer history covers as much, and more
+pub covered_begins : {I : Type 0} (h longer : List (Stored I)) → Begins h longer → Begins (covered h) (covered longer)
+covered_begins h longer b =
+    let rest = drop (front_of h) (covered longer) in
+    let first : take (length h) longer ≡ h = ap (take (length h)) b.1 ∙ take-append_seam h b.0 in
+    let same : covered h ≡ take (front_of h) (covered longer) = subst (λ l. covered l ≡ take (front_of l) (covered longer)) first (covers_more (length h) longer) in
+    (rest, sym (ap (λ l. l ++ rest) same ∙ take-append-drop (front_of h) (covered longer)))

@@ -2,6 +2,7 @@
 use Rattle.std.proofs.Common.{◌≡◌, ℕ, ◌+◌, ◌<◌, ◌≤◌, ◌^◌, List, [], ◌∷◌, ◌++◌, Option, Some, None, length, get_or, set, drop, replicate, refl, sym, ap, ◌∙◌, subst, arith}
 use Rattle.std.specs.Option.{IfSome}
 use Rattle.std.proofs.lemmas.List.{get_or_default, drop_all, length-set, length-replicate}
+use Rattle.mx_core.specs.Limits.{most_writers}
 use Rattle.mx_core.specs.declared.history.Stored.{Stored}
 use Rattle.mx_core.specs.declared.machine.Block.{Block}
 use Rattle.mx_core.specs.Front.{IsFront}
@@ -27,7 +28,7 @@ pub front_found : {I : Type 0} (s : State I) (held : List (Option Block)) (front
 front_found s held front k reached past is =
     subst (λ f. IsFront s.history f) (sym is ∙ ap (free_to front) (drop_all k held past)) (reached_front s reached)
 
-pub machine_start : {I : Type 0} (writers limit : ℕ) (held : List (Option Block)) (history : List (Stored I)) → writers ≤ 16 → limit ≤ 2 ^ 48 → held ≡ replicate writers None → history ≡ []
+pub machine_start : {I : Type 0} (writers limit : ℕ) (held : List (Option Block)) (history : List (Stored I)) → writers ≤ most_writers → limit ≤ 2 ^ 48 → held ≡ replicate writers None → history ≡ []
     → IsMachine (record { limit = limit; next = 0; held = held; history = history })
 machine_start writers limit held history few below blocks empty =
     subst IsMachine (ap (λ l. record { limit = limit; next = 0; held = l; history = [] }) (sym blocks) ∙ ap (λ h. record { limit = limit; next = 0; held = held; history = h }) (sym empty))

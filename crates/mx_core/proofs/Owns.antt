@@ -1,9 +1,10 @@
 -- The stores of one writer, and lawful stores, in a history that grows.
-use Rattle.std.proofs.Common.{◌≡◌, ◌≢◌, ℕ, true, ◌&&◌, List, [], ◌∷◌, ◌++◌, eqb, refl, sym, ap, ◌∙◌, inl, inr}
+use Rattle.std.proofs.Common.{◌≡◌, ◌≢◌, ℕ, ◌<◌, ◌≤◌, true, ◌&&◌, List, [], ◌∷◌, ◌++◌, eqb, refl, sym, ap, ◌∙◌, subst, inl, inr, arith}
 use Rattle.std.proofs.lemmas.Bool.{cases_Bool, and_parts, and_from, eq-eqb, ne_eqb}
 use Rattle.std.proofs.lemmas.List.{append-nil, append_assoc}
+use Rattle.std.proofs.Props.{props}
 use Rattle.mx_core.specs.declared.history.Stored.{Stored}
-use Rattle.mx_core.specs.History.{own, Begins, Law, keeps_law}
+use Rattle.mx_core.specs.History.{own, AreOf, Begins, Law, keeps_law}
 
 pub own-append : {I : Type 0} (h more : List (Stored I)) (k : ℕ) → own (h ++ more) k ≡ own h k ++ own more k
 own-append [] more k = refl
@@ -36,3 +37,22 @@ keeps_law_more law h x kept is = keeps_law-append law [] h (x ∷ []) ∙ and_fr
 
 pub keeps_law_front : {I : Type 0} (law : Law I) (h longer : List (Stored I)) → Begins h longer → keeps_law law [] longer ≡ true → keeps_law law [] h ≡ true
 keeps_law_front law h longer b kept = (and_parts (keeps_law law [] h) (keeps_law law h b.0) (sym (keeps_law-append law [] h b.0) ∙ ap (keeps_law law []) (sym b.1) ∙ kept)).0
+
+-- ---- who stored
+
+pub are_of_more : {I : Type 0} (n : ℕ) (h : List (Stored I)) (x : Stored I) → AreOf n h → x.writer < n → AreOf n (h ++ x ∷ [])
+are_of_more n [] x of lt = (lt, tt)
+are_of_more n (s ∷ h) x of lt = (of.0, are_of_more n h x of.1 lt)
+
+are_of_first : {I : Type 0} (n m : ℕ) (h more : List (Stored I)) → n ≤ m → AreOf n (h ++ more) → AreOf m h
+are_of_first n m [] more le of = tt
+are_of_first n m (s ∷ h) more le of = let lt : s.writer < n = of.0 in (omega (arith, lt, le), are_of_first n m h more le of.1)
+
+pub are_of_front : {I : Type 0} (n m : ℕ) (h longer : List (Stored I)) → n ≤ m → Begins h longer → AreOf n longer → AreOf m h
+are_of_front n m h longer le b of = are_of_first n m h b.0 le (subst (AreOf n) b.1 of)
+
+pub AreOf-prop : {I : Type 0} (n : ℕ) (h : List (Stored I)) → IsProp (AreOf n h)
+AreOf-prop n [] x y = refl
+AreOf-prop n (s ∷ h) x y =
+    let first : IsProp (s.writer < n) = hlevel props in
+    λ i. (first x.0 y.0 i, AreOf-prop n h x.1 y.1 i)

@@ -6,7 +6,7 @@ use Rattle.mx_core.specs.declared.machine.Block.{Block}
 use Rattle.mx_core.specs.declared.machine.Step.{Step}
 use Rattle.mx_core.specs.declared.machine.Step.TheVariants.{Draw, Store}
 use Rattle.mx_core.specs.Front.{IsFront}
-use Rattle.mx_core.specs.History.{item_at, is_stored, stored_count, Begins}
+use Rattle.mx_core.specs.History.{item_at, is_stored, stored_count, AreOf, Begins}
 use Rattle.mx_core.specs.Moves.{Takes}
 use Rattle.mx_core.specs.Runs.{Runs, IsReached, CoversNoUnfinishedWrite, NeverFalls}
 use Rattle.mx_core.specs.State.{State, start, block_of, drawn, stored, held_count, before_block, free_to}
@@ -48,6 +48,10 @@ reached_drawn s k n reached lt pos free below = reached_taken s (drawn s k n) (D
 
 pub reached_stored : {I : Type 0} (s : State I) (k : ℕ) (b : Block) (items : List I) → IsReached s → k < length s.held → block_of s k ≡ Some b → b.count ≡ length items → IsReached (stored s k b.first items)
 reached_stored s k b items reached lt is count = reached_taken s (stored s k b.first items) (Store k items) reached (lt, (b, is, count, refl))
+
+-- each store is of one of the writers
+pub reached_writers : {I : Type 0} (s : State I) → IsReached s → AreOf (length s.held) s.history
+reached_writers s reached = (is_sound s reached).writers
 
 -- a stored position is one of those drawn
 pub stored_in : {I : Type 0} (s : State I) → IsReached s → (p : ℕ) → is_stored s.history p ≡ true → (0 < p) × (p ≤ s.next)

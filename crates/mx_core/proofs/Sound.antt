@@ -1,13 +1,14 @@
 -- What holds of each reached state, kept by each step.
-use Rattle.std.proofs.Common.{◌≡◌, ◌≢◌, ℕ, ◌+◌, ◌<◌, ◌≤◌, ◌⊎◌, zero, suc, true, false, List, [], ◌∷◌, ◌++◌, Option, Some, None, length, get_or, set, replicate, refl, sym, ap, ◌∙◌, subst, inl, inr, arith}
+use Rattle.std.proofs.Common.{◌≡◌, ◌≢◌, ℕ, ◌+◌, ◌<◌, ◌≤◌, ◌⊎◌, zero, suc, true, false, List, [], ◌∷◌, ◌++◌, Option, Some, None, length, get_or, set, length-set, replicate, refl, sym, ap, ◌∙◌, subst, inl, inr, arith}
 use Rattle.std.specs.List.{AllByRecursion}
 use Rattle.std.proofs.lemmas.Bool.{cases_lt, cases_eq, false≢true, false_from_ne_true}
 use Rattle.std.proofs.lemmas.Option.{none-some, same_Some}
 use Rattle.mx_core.specs.declared.history.Stored.{Stored}
 use Rattle.mx_core.specs.declared.machine.Block.{Block}
-use Rattle.mx_core.specs.History.{is_stored, stored_count}
+use Rattle.mx_core.specs.History.{is_stored, stored_count, AreOf}
 use Rattle.mx_core.specs.State.{State, block_of, start, drawn, stored, count_of, held_count}
 use Rattle.mx_core.proofs.Blocks.{block_at-start, block_at-here, block_at-else}
+use Rattle.mx_core.proofs.Owns.{are_of_more}
 use Rattle.mx_core.proofs.Histories.{stored_cases, stored_still, stored_new, stored_count-append}
 
 pub record IsSound {I : Type 0} (s : State I) : Type 0 where
@@ -19,6 +20,7 @@ pub record IsSound {I : Type 0} (s : State I) : Type 0 where
   pub counts : stored_count s.history + held_count s.held ≡ s.next
   pub bound : s.next ≤ s.limit
   pub filled : AllByRecursion (λ x. 0 < length x.items) s.history
+  pub writers : AreOf (length s.held) s.history
 
 pub block_cases : (held : List (Option Block)) (k j : ℕ) (v : Option Block) (b : Block) → k < length held → get_or (set held k v) j None ≡ Some b
     → ((j ≡ k) × (v ≡ Some b)) ⊎ ((j ≢ k) × (get_or held j None ≡ Some b))
@@ -56,6 +58,7 @@ sound_start writers limit = record {
   counts = omega (arith, held_count-start writers);
   bound = omega arith;
   filled = tt;
+  writers = tt;
 }
 
 -- the block that a draw makes lies above all that was drawn
@@ -116,6 +119,7 @@ module _ {I : Type 0} (s : State I) (r : IsSound s) (k : ℕ) where
         omega (arith, r.counts, none, more);
     bound = omega arith;
     filled = r.filled;
+    writers = subst (λ n. AreOf n s.history) (sym (length-set s.held k (Some (record { first = s.next + 1; count = count })))) r.writers;
   }
 
   stored_within : (b : Block) (items : List I) → block_of s k ≡ Some b → b.count ≡ length items
@@ -174,4 +178,5 @@ module _ {I : Type 0} (s : State I) (r : IsSound s) (k : ℕ) where
         omega (arith, r.counts, size, less, more);
     bound = r.bound;
     filled = filled-push s.history _ r.filled (let old = r.held k b is in omega (arith, old.1));
+    writers = subst (λ n. AreOf n (stored s k b.first items).history) (sym (length-set s.held k None)) (are_of_more (length s.held) s.history _ r.writers lt);
   }

@@ -1,5 +1,5 @@
 -- A stream's history: the list of its stores, in the order in which they were made.
-use Rattle.std.specs.Prelude.{◌≡◌, ℕ, ◌+◌, ◌-◌, Bool, true, List, [], ◌∷◌, ◌++◌, Option, None, length, slice_get, nat_le, nat_eq, ◌&&◌, if◌then◌else◌}
+use Rattle.std.specs.Prelude.{◌≡◌, ℕ, ◌+◌, ◌-◌, ◌<◌, Bool, true, List, [], ◌∷◌, ◌++◌, Option, None, length, slice_get, nat_le, nat_eq, ◌&&◌, if◌then◌else◌}
 use Rattle.std.specs.Option.{option_or, is_some}
 use Rattle.mx_core.specs.declared.history.Stored.{Stored}
 
@@ -26,6 +26,11 @@ abbrev pub items_of : {I : Type 0} → List (Stored I) → List I
 items_of [] = []
 items_of (s ∷ ss) = s.items ++ items_of ss
 
+-- each store is of a writer below a number
+abbrev pub AreOf : {I : Type 0} → ℕ → List (Stored I) → Type 0
+AreOf writers [] = Unit {0}
+AreOf writers (s ∷ h) = (s.writer < writers) × AreOf writers h
+
 -- how many items a history has
 abbrev pub stored_count : {I : Type 0} → List (Stored I) → ℕ
 stored_count [] = 0
@@ -43,6 +48,11 @@ Law I = ℕ → List (Stored I) → ℕ → List I → Bool
 abbrev pub keeps_law : {I : Type 0} → Law I → List (Stored I) → List (Stored I) → Bool
 keeps_law law before [] = true
 keeps_law law before (s ∷ h) = law s.writer (own before s.writer) s.first s.items && keeps_law law (before ++ s ∷ []) h
+
+-- the stores are all of one writer, each lawful after those before it
+pub record IsLane {I : Type 0} (law : Law I) (k : ℕ) (mine : List (Stored I)) : Type 0 where
+  pub writer : own mine k ≡ mine
+  pub lawful : keeps_law law [] mine ≡ true
 
 -- the items of a block that begins at `first` as they stand, the first of them at `at`; `place` gives an item its position
 abbrev pub placed_from : {I : Type 0} → (I → ℕ → ℕ → I) → ℕ → ℕ → List I → List I

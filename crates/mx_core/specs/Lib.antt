@@ -1,8 +1,10 @@
 pub mod Covered
 pub mod Front
 pub mod History
+pub mod Limits
 pub mod Machine
 pub mod Moves
 pub mod Orderly
+pub mod Places
 pub mod Runs
 pub mod State

@@ -2,6 +2,7 @@
 
 ghost use Rattle.mx_core.specs.Covered.{CoversMore, CoversToFront};
 ghost use Rattle.mx_core.specs.Orderly.{RunsAreOrderly};
+ghost use Rattle.mx_core.specs.Places.{CoveredInPlace};
 ghost use Rattle.mx_core.specs.Runs.{CoversNoUnfinishedWrite, NeverFalls};
 
 /// In every run of a machine each position up to the front is stored, and no block that is held meets it.
@@ -28,4 +29,9 @@ pub fn covers_more<I>()
 /// What is stored in a run of a machine is orderly: each position once, and a writer's positions rise.
 pub fn runs_are_orderly<I>()
     ensures { RunsAreOrderly I }
+{}
+
+/// In a history whose lawful stores carry their positions, the items up to the front carry the positions from 1 on.
+pub fn covered_stands_in_place<I>()
+    ensures { CoveredInPlace I }
 {}

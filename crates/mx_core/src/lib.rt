@@ -9,8 +9,8 @@ mod placed;
 
 pub use history::Stored;
 pub use laws::{
-    covers_more, covers_to_front, front_covers_no_unfinished_write, front_never_falls,
+    covered_stands_in_place, covers_more, covers_to_front, front_covers_no_unfinished_write, front_never_falls,
     runs_are_orderly,
 };
 pub use machine::{Block, Machine, Moved, Step, StepFault};
-pub use placed::{Placed, Prepared};
+pub use placed::{Placed, Prepared, placed_at};

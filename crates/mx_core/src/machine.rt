@@ -2,6 +2,7 @@
 
 ghost use Rattle.std.specs.Prelude.{◌≡◌, ◌<◌, ◌≤◌, ◌^◌, ◌+◌, length, IfOk, IfErr, OnErr, IfSome};
 ghost use Rattle.mx_core.specs.Front.{IsFront};
+ghost use Rattle.mx_core.specs.Limits.{most_writers};
 ghost use Rattle.mx_core.specs.State.{start, before_block};
 ghost use Rattle.mx_core.specs.Moves.{IsStep, Moves, IsRefused};
 ghost use Rattle.mx_core.specs.Runs.{IsReached};
@@ -90,7 +91,7 @@ impl<I: Drop> Machine<I> {
     /// A machine of 1 to 16 writers, whose positions stay below `limit`, at most 2^48. `Memory` where the allocator
     /// refuses the list of writers.
     pub fn new(alloc: Global, writers: u8, limit: u64) -> Result<Machine<I>, Memory>
-        requires writers { (1 ≤ writers) × (writers ≤ 16) }
+        requires writers { (1 ≤ writers) × (writers ≤ most_writers) }
         requires limit { limit ≤ 2 ^ 48 }
         ensures { IfOk result (λ m. m ≡ start writers limit) }
     {

@@ -1,7 +1,8 @@
 //! Items that carry their own position.
 
-ghost use Rattle.std.specs.Prelude.{◌≡◌, ℕ, List, Bool};
+ghost use Rattle.std.specs.Prelude.{◌≡◌, ◌+◌, ◌^◌, ◌≤◌, ℕ, List, Bool, length};
 ghost use Rattle.mx_core.specs.declared.history.Stored.{Stored};
+ghost use Rattle.mx_core.specs.History.{placed_from};
 
 use mx_ids::Seq;
 
@@ -23,4 +24,19 @@ pub trait Placed: Sized {
 pub struct Prepared<I> {
     /// The items in order, each with no position yet.
     pub items: Seq<I>,
+}
+
+/// The items as they stand in a block that begins at a position. Takes no memory.
+pub fn placed_at<I: Placed>(items: Seq<I>, first: u64) -> Seq<I>
+    requires { first + length items ≤ 2 ^ 48 }
+    ensures items { result ≡ placed_from I.placed first first items }
+    ensures count { length result ≡ length items }
+{
+    let mut items = items.into_vec();
+    let mut at = first;
+    'items: for item in items.iter_mut() {
+        item.place(first, at);
+        at += 1;
+    }
+    Seq::from_vec(items)
 }

@@ -8,4 +8,5 @@ pub mod Changes
 pub mod Denied
 pub mod Laws
 pub mod Lawful
+pub mod Valid
 pub mod Drafts

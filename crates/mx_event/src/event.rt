@@ -1,9 +1,10 @@
 //! An event of a room, as it is stored and as it is shown.
 ghost use Rattle.std.specs.Prelude.{◌≡◌, option_map};
 ghost use Rattle.mx_event.specs.Forms.{redacts_of};
-ghost use Rattle.mx_event.specs.Kinds.{is_redaction};
+ghost use Rattle.mx_event.specs.Kinds.{has_key, is_of, is_redaction};
+ghost use Rattle.mx_event.specs.Shown.{named_id};
 
-use mx_ids::{EventId, RoomId, Seq, Text, UserId};
+use mx_ids::{EventId, RoomId, Seq, Text, UserId, read_event_id};
 use mx_json::Json;
 
 /// An event of a room (Client-Server API, Events). It is a state event where it has a state key.
@@ -43,6 +44,23 @@ pub struct Shown {
 }
 
 impl Event {
+    /// Whether the event is of a type, whatever its state key.
+    pub fn is_of(&self, kind: &str) -> bool
+        ensures { result ≡ is_of kind.now self.now }
+    {
+        self.kind.as_str() == kind
+    }
+
+    /// Whether the event is the state event of a type and a state key (Client-Server API, Types of room events).
+    pub fn has_key(&self, kind: &str, key: &str) -> bool
+        ensures { result ≡ has_key kind.now key.now self.now }
+    {
+        match &self.state_key {
+            Some(found) => self.is_of(kind) && found.as_str() == key,
+            None => false,
+        }
+    }
+
     /// Whether the event is a redaction: a message event of type `m.room.redaction` (Room Version 11, Redactions).
     pub fn is_redaction(&self) -> bool
         ensures { result ≡ is_redaction self.now }
@@ -57,6 +75,19 @@ impl Event {
     {
         if self.is_redaction() {
             self.content.field("redacts")
+        } else {
+            None
+        }
+    }
+
+    /// The id of the event that a redaction names, if it is that of an event of its sender's server. `None` where the event
+    /// is no redaction. Takes no memory.
+    pub fn named_id(&self) -> Option<EventId>
+        ensures { result ≡ named_id self.now }
+    {
+        if self.is_redaction() {
+            let named = self.content.text_at("redacts")?;
+            read_event_id(named.as_str(), self.sender.server())
         } else {
             None
         }

@@ -14,6 +14,6 @@ mod size;
 pub use draft::Draft;
 pub use event::{Event, Shown, Txn};
 pub use forms::client_form;
-pub use laws::{names_stay, redacts_once, shown_stays};
+pub use laws::{lawful_is_valid, names_stay, redacts_once, rooms_are_valid, shown_stays};
 pub use redaction::redact;
 pub use size::fits;

@@ -9,10 +9,14 @@ use Rattle.atomic_table.specs.Table.{step, Allows, Splits, Joins, Valid, homes_a
 use Rattle.atomic_table.proofs.Lists.{at_set, set_else}
 use Rattle.mx_core.specs.declared.history.Stored.{Stored}
 use Rattle.mx_core.specs.declared.machine.Block.{Block}
-use Rattle.mx_core.specs.History.{Law}
-use Rattle.mx_core.specs.State.{start, count_of}
+use Rattle.mx_core.specs.Front.{IsFront}
+use Rattle.mx_core.specs.History.{Law, Begins}
+use Rattle.mx_core.specs.Limits.{most_writers, most_drawn, last_stop}
+use Rattle.mx_core.specs.Runs.{IsReached}
+use Rattle.mx_core.specs.State.{State, start, block_of, count_of, free_to}
 use Rattle.mx_core.proofs.Blocks.{block_at-start}
-use Rattle.mx_core.proofs.Reached.{reached_start}
+use Rattle.mx_core.proofs.Histories.{front_below, begins_self, begins_trans}
+use Rattle.mx_core.proofs.Reached.{reached_start, reached_front, reached_writers, covers_no_unfinished_write}
 use Rattle.mx_lanes.specs.Held.{Held, StandsFor, empty}
 use Rattle.mx_lanes.proofs.Stands.{stands_empty}
 use Rattle.mx_front.specs.declared.board.Key.{Key}
@@ -23,7 +27,7 @@ use Rattle.mx_front.specs.declared.view.View.{View}
 use Rattle.mx_front.specs.World.{Slot, Core, World, words_of, Good, Plays, Knows, Ruled, opening_view}
 use Rattle.mx_front.specs.Told.{Sat, block_at, claimed, came, looked, read_next, drew, put, left, learned, maker_after, pen_after, next_maker, new_pen, reader_of, both, hearing, spent}
 use Rattle.mx_front.proofs.Worlds.{change, change_here, change_else, begins_longer, begins_shorter}
-use Rattle.mx_front.specs.Laws.{SeesOneHistory}
+use Rattle.mx_front.specs.Laws.{SeesOneHistory, Grows, StepsGrow}
 use Rattle.mx_front.proofs.Goes.{Goes, pen_is, few_drawn, plays_on, claims, comes, looks, reads, learns}
 use Rattle.mx_front.proofs.Moves.{draws, puts, leaves}
 
@@ -49,58 +53,99 @@ opening_world key = record {
 module _ {I : Type 0} (law : Law I) (key : Key) where
   allowed : (slots id : ℕ) (v : View I) (c : List (ℕ × Slot I)) (i : ℕ) (f : ℕ → ℕ) (told : ℕ → Sat I → Type 0)
       → ((w : World I) → Good law key w → Knows key w id v → Goes law key w id c i (f (get_or (words_of w) i 0)) (told (get_or (words_of w) i 0)))
-      → Allows (Ruled law key) slots id (v, c) i f told
-  allowed slots id v c i f told go s r deep at fits =
+      → Grows law key slots id (v, c) i f told
+  allowed slots id v c i f told go h s from deep at fits =
+      let r = from.ruled in
       let g = go r.world r.good (r.knows id v at) in (
         g.view,
         g.act,
         subst (λ hs. Valid hs c g.act) (sym r.homes) g.valid,
         record {
-          world = g.to;
-          words = ap (λ ws. set ws i (f (get_or ws i 0))) r.words ∙ g.words;
-          homes = ap (λ hs. homes_after hs c g.act) r.homes ∙ g.homes;
-          good = g.good;
-          knows = view_all (Knows key g.to) s.views id g.view g.mine (λ j x ne e. g.others j x ne (r.knows j x e));
+          ruled = record {
+            world = g.to;
+            words = ap (λ ws. set ws i (f (get_or ws i 0))) r.words ∙ g.words;
+            homes = ap (λ hs. homes_after hs c g.act) r.homes ∙ g.homes;
+            good = g.good;
+            knows = view_all (Knows key g.to) s.views id g.view g.mine (λ j x ne e. g.others j x ne (r.knows j x e));
+          };
+          grows = begins_trans h r.world.core.state.history g.to.core.state.history from.grows g.grows;
         },
         subst (λ ws. told (get_or ws i 0) (g.view, carried_after c g.act)) (sym r.words) g.tells,
       )
 
+  pub claims_grow : (slots id old : ℕ) (m : Sat I) → Grows law key slots id m 0 (λ n. either (eqb n old) (old + 1) n) (claimed (step slots 0 old (old + 1) maybe.none) m)
+  claims_grow slots id old m = allowed slots id m.0 m.1 0 (λ n. either (eqb n old) (old + 1) n) (claimed (step slots 0 old (old + 1) maybe.none) m) (λ w. claims law key slots w id old m.0 m.1)
+
+  pub comes_grow : (slots id : ℕ) (m : Sat I) → Grows law key slots id m 1 (λ n. n) (came (step slots 1 0 0 maybe.none) m)
+  comes_grow slots id m = allowed slots id m.0 m.1 1 (λ n. n) (came (step slots 1 0 0 maybe.none) m) (λ w. comes law key slots w id m.0 m.1)
+
+  pub looks_grow : (slots id t : ℕ) (m : Sat I) → m.0.turn ≡ Has t → Grows law key slots id m 3 (λ n. n) (looked law (step slots 3 0 0 maybe.none) m)
+  looks_grow slots id t m is = allowed slots id m.0 m.1 3 (λ n. n) (looked law (step slots 3 0 0 maybe.none) m) (λ w. looks law key slots t w id m.0 m.1 is)
+
+  pub reads_grow : (slots id : ℕ) (m : Sat I) → Grows law key slots id m 2 (λ n. n) (read_next (step slots 2 0 0 maybe.none) m)
+  reads_grow slots id m = allowed slots id m.0 m.1 2 (λ n. n) (read_next (step slots 2 0 0 maybe.none) m) (λ w. reads law key slots w id m.0 m.1)
+
+  pub learns_grow : (slots id : ℕ) (m : Sat I) → Grows law key slots id m 0 (λ n. n) (learned law (step slots 0 0 0 maybe.none) m)
+  learns_grow slots id m = allowed slots id m.0 m.1 0 (λ n. n) (learned law (step slots 0 0 0 maybe.none) m) (λ w. learns law key slots w id m.0 m.1)
+
+  pub draws_grow : (slots id n pk : ℕ) (m : Sat I) → m.0.who ≡ Pen pk → m.0.block ≡ None → m.0.fresh ≡ true → m.0.read < key.stop → 0 < n → n ≤ most_drawn → n ≤ m.0.reserve
+      → Grows law key slots id m 2 (λ x. (x + n) % 2 ^ 64) (drew (step slots 2 n 0 maybe.none) m)
+  draws_grow slots id n pk m who free fresh below pos small room =
+      allowed slots id m.0 m.1 2 (λ x. (x + n) % 2 ^ 64) (drew (step slots 2 n 0 maybe.none) m) (λ w. draws law key slots n pk w id m.0 m.1 who free fresh below pos small room)
+
+  pub puts_grow : (slots id t n : ℕ) (m : Sat I) (x : Stored I) (b : Held I) → m.1 ≡ (0, Some b) ∷ [] → m.0.turn ≡ Has t → m.0.who ≡ Pen x.writer
+      → m.0.block ≡ block_at x.first (length x.items) → law x.writer m.0.own x.first x.items ≡ true → StandsFor (m.0.all ++ x ∷ []) b → n ≡ length m.0.all + 1
+      → length b.spare ≡ length m.0.spares → get_or b.spare x.writer 0 + length x.items ≡ get_or m.0.spares x.writer 0 → ((i : ℕ) → i ≢ x.writer → get_or b.spare i 0 ≡ get_or m.0.spares i 0)
+      → Grows law key slots id m 3 (λ _. n) (λ _. put (step slots 3 n 0 maybe.none) m n)
+  puts_grow slots id t n m x b hand turn who block lawful stands count lanes spent others =
+      subst (λ c. Grows law key slots id (m.0, c) 3 (λ _. n) (λ _. put (step slots 3 n 0 maybe.none) (m.0, c) n)) (sym hand)
+      (allowed slots id m.0 ((0, Some b) ∷ []) 3 (λ _. n) (λ _. put (step slots 3 n 0 maybe.none) (m.0, (0, Some b) ∷ []) n)
+      (λ w. puts law key slots t n w id m.0 x b turn who block lawful stands count lanes spent others))
+
+  pub leaves_grow : (slots id t : ℕ) (m : Sat I) (b : Held I) → m.1 ≡ (0, Some b) ∷ [] → m.0.turn ≡ Has t → StandsFor m.0.all b → length b.spare ≡ length m.0.spares
+      → ((i : ℕ) → get_or m.0.spares i 0 ≤ get_or b.spare i 0)
+      → Grows law key slots id m 1 (λ _. t + 1) (λ _. left (step slots 1 (t + 1) 0 maybe.none) m (t + 1))
+  leaves_grow slots id t m b hand turn stands lanes spares =
+      subst (λ c. Grows law key slots id (m.0, c) 1 (λ _. t + 1) (λ _. left (step slots 1 (t + 1) 0 maybe.none) (m.0, c) (t + 1))) (sym hand)
+      (allowed slots id m.0 ((0, Some b) ∷ []) 1 (λ _. t + 1) (λ _. left (step slots 1 (t + 1) 0 maybe.none) (m.0, (0, Some b) ∷ []) (t + 1))
+      (λ w. leaves law key slots t w id m.0 b turn stands lanes spares))
+
+  -- a step of which the history grows is allowed
+  step_of : (slots id : ℕ) (m : Sat I) (i : ℕ) (f : ℕ → ℕ) (told : ℕ → Sat I → Type 0) → Grows law key slots id m i f told → Allows (Ruled law key) slots id m i f told
+  step_of slots id m i f told grows s r deep at fits =
+      let h = r.world.core.state.history in
+      let next = grows h s (record { ruled = r; grows = begins_self h }) deep at fits in
+      (next.0, next.1, next.2, next.3.ruled, next.4)
+
   pub claims_at : (slots id old : ℕ) (m : Sat I) → Allows (Ruled law key) slots id m 0 (λ n. either (eqb n old) (old + 1) n) (claimed (step slots 0 old (old + 1) maybe.none) m)
-  claims_at slots id old m = allowed slots id m.0 m.1 0 (λ n. either (eqb n old) (old + 1) n) (claimed (step slots 0 old (old + 1) maybe.none) m) (λ w. claims law key slots w id old m.0 m.1)
+  claims_at slots id old m = step_of slots id m 0 (λ n. either (eqb n old) (old + 1) n) (claimed (step slots 0 old (old + 1) maybe.none) m) (claims_grow slots id old m)
 
   pub comes_at : (slots id : ℕ) (m : Sat I) → Allows (Ruled law key) slots id m 1 (λ n. n) (came (step slots 1 0 0 maybe.none) m)
-  comes_at slots id m = allowed slots id m.0 m.1 1 (λ n. n) (came (step slots 1 0 0 maybe.none) m) (λ w. comes law key slots w id m.0 m.1)
+  comes_at slots id m = step_of slots id m 1 (λ n. n) (came (step slots 1 0 0 maybe.none) m) (comes_grow slots id m)
 
   pub looks_at : (slots id t : ℕ) (m : Sat I) → m.0.turn ≡ Has t → Allows (Ruled law key) slots id m 3 (λ n. n) (looked law (step slots 3 0 0 maybe.none) m)
-  looks_at slots id t m is = allowed slots id m.0 m.1 3 (λ n. n) (looked law (step slots 3 0 0 maybe.none) m) (λ w. looks law key slots t w id m.0 m.1 is)
+  looks_at slots id t m is = step_of slots id m 3 (λ n. n) (looked law (step slots 3 0 0 maybe.none) m) (looks_grow slots id t m is)
 
   pub reads_at : (slots id : ℕ) (m : Sat I) → Allows (Ruled law key) slots id m 2 (λ n. n) (read_next (step slots 2 0 0 maybe.none) m)
-  reads_at slots id m = allowed slots id m.0 m.1 2 (λ n. n) (read_next (step slots 2 0 0 maybe.none) m) (λ w. reads law key slots w id m.0 m.1)
+  reads_at slots id m = step_of slots id m 2 (λ n. n) (read_next (step slots 2 0 0 maybe.none) m) (reads_grow slots id m)
 
   pub learns_at : (slots id : ℕ) (m : Sat I) → Allows (Ruled law key) slots id m 0 (λ n. n) (learned law (step slots 0 0 0 maybe.none) m)
-  learns_at slots id m = allowed slots id m.0 m.1 0 (λ n. n) (learned law (step slots 0 0 0 maybe.none) m) (λ w. learns law key slots w id m.0 m.1)
+  learns_at slots id m = step_of slots id m 0 (λ n. n) (learned law (step slots 0 0 0 maybe.none) m) (learns_grow slots id m)
 
-  pub draws_at : (slots id n pk : ℕ) (m : Sat I) → m.0.who ≡ Pen pk → m.0.block ≡ None → m.0.fresh ≡ true → m.0.read < key.stop → 0 < n → n ≤ 256 → n ≤ m.0.reserve
+  pub draws_at : (slots id n pk : ℕ) (m : Sat I) → m.0.who ≡ Pen pk → m.0.block ≡ None → m.0.fresh ≡ true → m.0.read < key.stop → 0 < n → n ≤ most_drawn → n ≤ m.0.reserve
       → Allows (Ruled law key) slots id m 2 (λ x. (x + n) % 2 ^ 64) (drew (step slots 2 n 0 maybe.none) m)
-  draws_at slots id n pk m who free fresh below pos small room =
-      allowed slots id m.0 m.1 2 (λ x. (x + n) % 2 ^ 64) (drew (step slots 2 n 0 maybe.none) m) (λ w. draws law key slots n pk w id m.0 m.1 who free fresh below pos small room)
+  draws_at slots id n pk m who free fresh below pos small room = step_of slots id m 2 (λ x. (x + n) % 2 ^ 64) (drew (step slots 2 n 0 maybe.none) m) (draws_grow slots id n pk m who free fresh below pos small room)
 
   pub puts_at : (slots id t n : ℕ) (m : Sat I) (x : Stored I) (b : Held I) → m.1 ≡ (0, Some b) ∷ [] → m.0.turn ≡ Has t → m.0.who ≡ Pen x.writer
       → m.0.block ≡ block_at x.first (length x.items) → law x.writer m.0.own x.first x.items ≡ true → StandsFor (m.0.all ++ x ∷ []) b → n ≡ length m.0.all + 1
       → length b.spare ≡ length m.0.spares → get_or b.spare x.writer 0 + length x.items ≡ get_or m.0.spares x.writer 0 → ((i : ℕ) → i ≢ x.writer → get_or b.spare i 0 ≡ get_or m.0.spares i 0)
       → Allows (Ruled law key) slots id m 3 (λ _. n) (λ _. put (step slots 3 n 0 maybe.none) m n)
-  puts_at slots id t n m x b hand turn who block lawful stands count lanes spent others =
-      subst (λ c. Allows (Ruled law key) slots id (m.0, c) 3 (λ _. n) (λ _. put (step slots 3 n 0 maybe.none) (m.0, c) n)) (sym hand)
-      (allowed slots id m.0 ((0, Some b) ∷ []) 3 (λ _. n) (λ _. put (step slots 3 n 0 maybe.none) (m.0, (0, Some b) ∷ []) n)
-      (λ w. puts law key slots t n w id m.0 x b turn who block lawful stands count lanes spent others))
+  puts_at slots id t n m x b hand turn who block lawful stands count lanes spent others = step_of slots id m 3 (λ _. n) (λ _. put (step slots 3 n 0 maybe.none) m n) (puts_grow slots id t n m x b hand turn who block lawful stands count lanes spent others)
 
   pub leaves_at : (slots id t : ℕ) (m : Sat I) (b : Held I) → m.1 ≡ (0, Some b) ∷ [] → m.0.turn ≡ Has t → StandsFor m.0.all b → length b.spare ≡ length m.0.spares
       → ((i : ℕ) → get_or m.0.spares i 0 ≤ get_or b.spare i 0)
       → Allows (Ruled law key) slots id m 1 (λ _. t + 1) (λ _. left (step slots 1 (t + 1) 0 maybe.none) m (t + 1))
-  leaves_at slots id t m b hand turn stands lanes spares =
-      subst (λ c. Allows (Ruled law key) slots id (m.0, c) 1 (λ _. t + 1) (λ _. left (step slots 1 (t + 1) 0 maybe.none) (m.0, c) (t + 1))) (sym hand)
-      (allowed slots id m.0 ((0, Some b) ∷ []) 1 (λ _. t + 1) (λ _. left (step slots 1 (t + 1) 0 maybe.none) (m.0, (0, Some b) ∷ []) (t + 1))
-      (λ w. leaves law key slots t w id m.0 b turn stands lanes spares))
+  leaves_at slots id t m b hand turn stands lanes spares = step_of slots id m 1 (λ _. t + 1) (λ _. left (step slots 1 (t + 1) 0 maybe.none) m (t + 1)) (leaves_grow slots id t m b hand turn stands lanes spares)
 
   -- a seat is cut in two
   record Cuts (w : World I) (id size : ℕ) (first second : View I) : Type 0 where
@@ -131,7 +176,7 @@ module _ {I : Type 0} (law : Law I) (key : Key) where
     to = w;
     good = good;
     mine = k;
-    new = record { core = record { sees = k.core.sees; hears = (w.core.state.history, refl); reads = k.core.reads; plays = tt }; queued = tt };
+    new = record { core = record { bound = k.core.bound; sees = k.core.sees; hears = (w.core.state.history, refl); reads = k.core.reads; plays = tt }; queued = tt };
     others = λ j x ne q. q;
     words = refl;
     slot = refl;
@@ -156,6 +201,7 @@ module _ {I : Type 0} (law : Law I) (key : Key) where
             };
             mine = record {
               core = record {
+                bound = k.core.bound;
                 sees = k.core.sees;
                 hears = k.core.hears;
                 reads = k.core.reads;
@@ -165,6 +211,7 @@ module _ {I : Type 0} (law : Law I) (key : Key) where
             };
             new = record {
               core = record {
+                bound = k.core.bound;
                 sees = (w.core.state.history, refl);
                 hears = (w.core.state.history, refl);
                 reads = omega arith;
@@ -182,6 +229,7 @@ module _ {I : Type 0} (law : Law I) (key : Key) where
             };
             others = λ j x ne q. record {
               core = record {
+                bound = q.core.bound;
                 sees = q.core.sees;
                 hears = q.core.hears;
                 reads = q.core.reads;
@@ -217,7 +265,7 @@ module _ {I : Type 0} (law : Law I) (key : Key) where
         homes = r.homes;
         good = r.good;
         knows = view_all (Knows key r.world) (set s.views id all) other spent
-            (record { core = record { sees = (r.world.core.state.history, refl); hears = (r.world.core.state.history, refl); reads = omega arith; plays = tt }; queued = tt })
+            (record { core = record { bound = r.good.kept.few; sees = (r.world.core.state.history, refl); hears = (r.world.core.state.history, refl); reads = omega arith; plays = tt }; queued = tt })
             (λ j x ne e. view_all (Knows key r.world) s.views id all (go r.world mine theirs) (λ i y no a. r.knows i y a) j x e);
       }
 
@@ -225,6 +273,7 @@ module _ {I : Type 0} (law : Law I) (key : Key) where
   meets_at id v other u = glued id v other u (both v u) (λ w k q.
       let h = w.core.state.history in record {
         core = record {
+          bound = omega (arith, k.core.bound, q.core.bound);
           sees = begins_longer v.seen u.seen h k.core.sees q.core.sees;
           hears = begins_shorter v.seen u.seen h k.core.sees q.core.sees;
           reads = omega (arith, k.core.reads, q.core.reads);
@@ -236,12 +285,12 @@ module _ {I : Type 0} (law : Law I) (key : Key) where
 
   pub hears_at : (id : ℕ) (v : View I) (other : ℕ) (u : View I) → Joins (Ruled law key) id v other u (hearing v u) spent
   hears_at id v other u = glued id v other u (hearing v u) (λ w k q. record {
-    core = record { sees = k.core.sees; hears = q.core.sees; reads = k.core.reads; plays = k.core.plays };
+    core = record { bound = omega (arith, k.core.bound, q.core.bound); sees = k.core.sees; hears = q.core.sees; reads = k.core.reads; plays = k.core.plays };
     queued = k.queued;
   })
 
   -- the start
-  pub opens : 1 ≤ key.writers → key.writers ≤ 16 → key.stop ≤ 281474976694272 → Ruled law key (opening (0 ∷ 0 ∷ 0 ∷ 0 ∷ []) (Some (empty key.writers) ∷ []) opening_view)
+  pub opens : 1 ≤ key.writers → key.writers ≤ most_writers → key.stop ≤ last_stop → Ruled law key (opening (0 ∷ 0 ∷ 0 ∷ 0 ∷ []) (Some (empty key.writers) ∷ []) (opening_view key))
   opens some few small = record {
     world = opening_world key;
     words = refl;
@@ -267,12 +316,34 @@ module _ {I : Type 0} (law : Law I) (key : Key) where
     knows = first;
   }
     where
-      first : (j : ℕ) (v : View I) → get_elem? (opening_view ∷ []) j ≡ maybe.some v → Knows key (opening_world key) j v
-      first zero v e = subst (Knows key (opening_world key) 0) (some-injective opening_view v e) (record {
-        core = record { sees = ([], refl); hears = ([], refl); reads = omega arith; plays = (refl, refl) };
+      first : (j : ℕ) (v : View I) → get_elem? (opening_view key ∷ []) j ≡ maybe.some v → Knows key (opening_world key) j v
+      first zero v e = subst (Knows key (opening_world key) 0) (some-injective (opening_view key) v e) (record {
+        core = record { bound = omega arith; sees = ([], refl); hears = ([], refl); reads = omega arith; plays = (refl, refl) };
         queued = tt;
       })
       first (suc j) v e = absurd (some-ne-none v (sym e))
+
+-- each step
+pub steps_grow : {I : Type 0} (law : Law I) → StepsGrow law
+steps_grow law key slots id m = record {
+  claims = λ old. claims_grow law key slots id old m;
+  comes = comes_grow law key slots id m;
+  looks = λ t has. looks_grow law key slots id t m has;
+  reads = reads_grow law key slots id m;
+  learns = learns_grow law key slots id m;
+  draws = λ n k d. draws_grow law key slots id n k m d.who d.free d.fresh d.below d.some_positions d.few d.room;
+  puts = λ t n x b p. puts_grow law key slots id t n m x b p.hand p.turn p.who p.block p.lawful p.stands p.count p.lanes p.spent p.others;
+  leaves = λ t b e. leaves_grow law key slots id t m b e.hand e.turn e.stands e.lanes e.spares;
+}
+
+-- the front of a beginning of the history lies below each block that is held
+seen_covers : {I : Type 0} (s : State I) → IsReached s → (h : List (Stored I)) → Begins h s.history → (front : ℕ) → IsFront h front → (k : ℕ) (b : Block) → block_of s k ≡ Some b → front < b.first
+seen_covers s reached h begins front is k b held =
+    let whole = reached_front s reached in
+    let up : front ≤ free_to s.next s.held = front_below h begins.0 front (free_to s.next s.held) is (subst (λ l. IsFront l (free_to s.next s.held)) begins.1 whole) in
+    let below : free_to s.next s.held < b.first =
+    (covers_no_unfinished_write reached.writers reached.limit reached.steps s (free_to s.next s.held) reached.run whole).1 k b held in
+    omega (arith, up, below)
 
 -- the interleaving law
 pub one_history : {I : Type 0} (law : Law I) → SeesOneHistory law
@@ -286,6 +357,8 @@ one_history law key s r =
       below = omega (arith, few_drawn law key w.state w.over kept, kept.small);
       lawful = kept.lawful;
       seen = λ j v at. (r.knows j v at).core.sees;
+      writers = reached_writers w.state kept.reached;
+      covers = λ j v front k b at is held. seen_covers w.state kept.reached v.seen (r.knows j v at).core.sees front is k b held;
       pens = λ j v k at who. let p = pen_is key w j v k (r.knows j v at).core who in record { own_is = p.own_is; block = sym p.block };
       one_pen = λ i j u v k a b who same. sym (pen_is key w i u k (r.knows i u a).core who).seat ∙ (pen_is key w j v k (r.knows j v b).core same).seat;
     }

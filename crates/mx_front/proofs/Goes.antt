@@ -7,12 +7,14 @@ use prog.Atomic.{either}
 use Rattle.atomic_table.specs.Table.{step, Act, keeps, takes, carried_after, homes_after, Valid}
 use Rattle.atomic_table.proofs.Lists.{exchanged}
 use Rattle.mx_core.specs.declared.history.Stored.{Stored}
-use Rattle.mx_core.specs.History.{own, is_stored, stored_count, Begins, Law, keeps_law}
+use Rattle.mx_core.specs.History.{own, is_stored, stored_count, AreOf, Begins, Law, keeps_law}
+use Rattle.mx_core.specs.Limits.{most_writers, most_held}
 use Rattle.mx_core.specs.State.{State, block_of, count_of}
 use Rattle.mx_core.specs.Orderly.{top}
+use Rattle.mx_core.proofs.Histories.{begins_self}
 use Rattle.mx_core.proofs.Orders.{runs_are_orderly, reached_above}
-use Rattle.mx_core.proofs.Owns.{begins_own, keeps_law_front}
-use Rattle.mx_core.proofs.Reached.{stored_apart, held_in, reached_counts}
+use Rattle.mx_core.proofs.Owns.{begins_own, keeps_law_front, are_of_front}
+use Rattle.mx_core.proofs.Reached.{stored_apart, held_in, reached_counts, reached_writers}
 use Rattle.mx_lanes.specs.Held.{Held}
 use Rattle.mx_front.specs.declared.board.Key.{Key}
 use Rattle.mx_front.specs.declared.view.Role.{Role}
@@ -128,6 +130,7 @@ module _ {I : Type 0} (law : Law I) (key : Key) where
     pub others : (j : ℕ) (x : View I) → j ≢ id → Knows key w j x → Knows key to j x
     pub words : set (words_of w) i n ≡ words_of to
     pub homes : homes_after (w.line.slot ∷ []) c act ≡ to.line.slot ∷ []
+    pub grows : Begins w.core.state.history to.core.state.history
     pub tells : told (view, carried_after c act)
 
   -- the world stays
@@ -142,11 +145,16 @@ module _ {I : Type 0} (law : Law I) (key : Key) where
     others = λ j x ne q. q;
     words = set-get_or (words_of w) i 0;
     homes = refl;
+    grows = begins_self w.core.state.history;
     tells = tells;
   }
 
-  pub few_drawn : (s : State I) (over : ℕ → Bool) → Kept law key s over → s.next ≤ key.stop + 4096
-  few_drawn s over kept = omega (arith, kept.bound, passed_le over 16)
+  pub few_drawn : (s : State I) (over : ℕ → Bool) → Kept law key s over → s.next ≤ key.stop + most_held
+  few_drawn s over kept = omega (arith, kept.bound, passed_le over most_writers)
+
+  -- what begins the history is stored by the stream's writers
+  of_writers : (s : State I) (over : ℕ → Bool) → Kept law key s over → (n : ℕ) (h : List (Stored I)) → key.writers ≤ n → Begins h s.history → AreOf n h
+  of_writers s over kept n h le b = are_of_front (length s.held) n h s.history (omega (arith, kept.writers, le)) b (reached_writers s kept.reached)
 
   -- a try to take a ticket
   pub claims : (slots : ℕ) (w : World I) (id old : ℕ) (v : View I) (c : List (ℕ × Slot I)) → Good law key w → Knows key w id v
@@ -166,7 +174,7 @@ module _ {I : Type 0} (law : Law I) (key : Key) where
           stocked = good.stocked;
         };
         mine = record {
-          core = record { sees = k.core.sees; hears = k.core.hears; reads = k.core.reads; plays = k.core.plays };
+          core = record { bound = k.core.bound; sees = k.core.sees; hears = k.core.hears; reads = k.core.reads; plays = k.core.plays };
           queued = record {
             from = good.ordered;
             below = omega (arith, hit);
@@ -177,6 +185,7 @@ module _ {I : Type 0} (law : Law I) (key : Key) where
         others = λ j x ne q. record { core = q.core; queued = claimed_others key.writers w.line w.core.state.history w.core.room j id old x.all x.spares x.turn hit q.queued };
         words = refl;
         homes = refl;
+        grows = begins_self w.core.state.history;
         tells = (λ e. refl, λ miss. absurd (miss hit));
       })
       (λ miss. stays w id v c 0 (claimed (step slots 0 old (old + 1) maybe.none) (v, c) w.line.ticket) good k (λ e. absurd (miss e), λ e. refl))
@@ -205,12 +214,13 @@ module _ {I : Type 0} (law : Law I) (key : Key) where
               stocked = tt;
             };
             mine = record {
-              core = record { sees = k.core.sees; hears = k.core.hears; reads = k.core.reads; plays = k.core.plays };
+              core = record { bound = k.core.bound; sees = k.core.sees; hears = k.core.hears; reads = k.core.reads; plays = k.core.plays };
               queued = record { turn = refl; below = q.below; mine = q.mine; out = refl; whole = refl; rooms = b.stands.rooms; count = b.stands.count };
             };
             others = λ j x ne q'. record { core = q'.core; queued = came_others key.writers w.line w.core.state.history w.core.room j id x.all x.spares x.turn ne q.mine q'.queued };
             words = refl;
             homes = refl;
+            grows = begins_self w.core.state.history;
             tells = (
               λ e. record {
                 book = b.book;
@@ -236,12 +246,13 @@ module _ {I : Type 0} (law : Law I) (key : Key) where
         valid = tt;
         good = good;
         mine = record {
-          core = record { sees = ([], sym q.whole ∙ sym (append-nil v.all)); hears = k.core.hears; reads = k.core.reads; plays = k.core.plays };
+          core = record { bound = k.core.bound; sees = ([], sym q.whole ∙ sym (append-nil v.all)); hears = k.core.hears; reads = k.core.reads; plays = k.core.plays };
           queued = k.queued;
         };
         others = λ j x ne o. o;
         words = refl;
         homes = refl;
+        grows = begins_self w.core.state.history;
         tells = (
           refl,
           record {
@@ -249,7 +260,8 @@ module _ {I : Type 0} (law : Law I) (key : Key) where
             begins = subst (Begins v.seen) (sym q.whole) k.core.sees;
             lawful = ap (keeps_law law []) q.whole ∙ kept.lawful;
             orderly = runs_are_orderly s kept.reached v.all ([], sym q.whole ∙ sym (append-nil v.all));
-            reads = subst (λ h. v.read ≤ stored_count h + 4096) (sym q.whole) (omega (arith, k.core.reads, reached_counts s kept.reached, held_few s.held kept.blocks, kept.writers, kept.few));
+            writers = subst (AreOf v.writers) (sym q.whole) (of_writers s w.core.over kept v.writers s.history k.core.bound ([], sym (append-nil s.history)));
+            reads = subst (λ h. v.read ≤ stored_count h + most_held) (sym q.whole) (omega (arith, k.core.reads, reached_counts s kept.reached, held_few s.held kept.blocks, kept.writers, kept.few));
             pen = λ pk who. let p = pen_is key w.core id v pk k.core who in record {
               own_is = ap (λ h. own h pk) q.whole ∙ sym p.own_is;
               block = λ b e.
@@ -280,6 +292,7 @@ module _ {I : Type 0} (law : Law I) (key : Key) where
         good = good;
         mine = record {
           core = record {
+            bound = k.core.bound;
             sees = k.core.sees;
             hears = k.core.hears;
             reads = omega arith;
@@ -291,6 +304,7 @@ module _ {I : Type 0} (law : Law I) (key : Key) where
         others = λ j x ne q. q;
         words = refl;
         homes = refl;
+        grows = begins_self w.core.state.history;
         tells = (refl, k.core.reads);
       }
 
@@ -307,6 +321,7 @@ module _ {I : Type 0} (law : Law I) (key : Key) where
           begins = begins_one v.seen v.heard h k.core.sees k.core.hears;
           lawful = keeps_law_front law (longer v.seen v.heard) h (begins_longer v.seen v.heard h k.core.sees k.core.hears) good.kept.lawful;
           orderly = runs_are_orderly w.core.state good.kept.reached (longer v.seen v.heard) (begins_longer v.seen v.heard h k.core.sees k.core.hears);
+          writers = of_writers w.core.state w.core.over good.kept v.writers (longer v.seen v.heard) k.core.bound (begins_longer v.seen v.heard h k.core.sees k.core.hears);
           seen = λ pk who. of_pen v.seen pk k.core.sees who;
           heard = λ pk who. of_pen v.heard pk k.core.hears who;
         },

@@ -1,13 +1,14 @@
 -- What a draw asks, and what two seats that meet have seen, over plain values.
-use Rattle.std.proofs.Common.{◌≡◌, ℕ, ◌+◌, ◌%◌, ◌^◌, ◌<◌, ◌≤◌, true, List, [], ◌∷◌, ◌++◌, None, length, length-append, append-nil, leb, max, refl, sym, ap, ap₂, ◌∙◌, subst, inl, inr, arith, le-leb}
+use Rattle.std.proofs.Common.{◌≡◌, ℕ, ◌+◌, ◌%◌, ◌^◌, ◌<◌, ◌≤◌, true, List, [], ◌∷◌, ◌++◌, None, length, length-append, append-nil, leb, max, min, refl, sym, ap, ap₂, ◌∙◌, subst, inl, inr, arith, le-leb}
 use Rattle.std.proofs.lemmas.Bool.{cases_Bool, leb-true, leb-false}
 use mathlib.Core.Option as maybe
 use Rattle.atomic_table.specs.Table.{step, Allows}
 use Rattle.mx_core.specs.Orderly.{IsOrderly}
 use Rattle.mx_core.proofs.Orders.{begins_orderly}
-use Rattle.mx_core.specs.History.{own, Begins, Law, keeps_law}
+use Rattle.mx_core.specs.History.{own, AreOf, Begins, Law, keeps_law}
+use Rattle.mx_core.specs.Limits.{most_drawn}
 use Rattle.mx_core.proofs.Histories.{begins_self}
-use Rattle.mx_core.proofs.Owns.{begins_own}
+use Rattle.mx_core.proofs.Owns.{begins_own, are_of_front}
 use Rattle.mx_front.specs.declared.board.Key.{Key}
 use Rattle.mx_front.specs.declared.view.Role.TheVariants.{Pen}
 use Rattle.mx_front.specs.declared.view.Turn.TheVariants.{Idle}
@@ -56,7 +57,7 @@ module _ {A : Type 0} where
 
 module _ {I : Type 0} (law : Law I) where
   -- a pen that has read the word below the stop may draw
-  pub drawable : (key : Key) (slots id n pk r : ℕ) (m m1 : Sat I) → m1 ≡ (record m.0 { read = r; fresh = true }, m.1) → m.0.who ≡ Pen pk → m.0.block ≡ None → r < key.stop → 0 < n → n ≤ 256 → n ≤ m.0.reserve
+  pub drawable : (key : Key) (slots id n pk r : ℕ) (m m1 : Sat I) → m1 ≡ (record m.0 { read = r; fresh = true }, m.1) → m.0.who ≡ Pen pk → m.0.block ≡ None → r < key.stop → 0 < n → n ≤ most_drawn → n ≤ m.0.reserve
       → Allows (Ruled law key) slots id m1 2 (λ x. (x + n) % 2 ^ 64) (drew (step slots 2 n 0 maybe.none) m1)
   drawable key slots id n pk r m m1 is who free below pos small room =
       subst (λ (y : Sat I). Allows (Ruled law key) slots id y 2 (λ x. (x + n) % 2 ^ 64) (drew (step slots 2 n 0 maybe.none) y)) (sym is)
@@ -81,6 +82,8 @@ module _ {I : Type 0} (law : Law I) where
           second = begins_second xs ys b;
           lawful = ap (keeps_law law []) (sym (longer_again xs ys)) ∙ l.lawful;
           orderly = subst IsOrderly (longer_again xs ys) l.orderly;
+          fewer = omega arith;
+          writers = subst (AreOf (min m.0.writers u.0.writers)) (longer_again xs ys) l.writers;
           read = refl;
           looks = refl;
         };
@@ -92,7 +95,10 @@ module _ {I : Type 0} (law : Law I) where
   notes k v u complete who pen pass l =
       let b : Begins (shorter u.seen v.seen) (longer u.seen v.seen) = begins_turned u.seen v.seen l.begins in
       let before : Begins (own u.seen k) v.own = l.heard k who in
-      let noted : Begins v.seen (longer u.seen v.seen) = begins_second u.seen v.seen b in record {
+      let noted : Begins v.seen (longer u.seen v.seen) = begins_second u.seen v.seen b in
+      let few = min v.writers u.writers in
+      let least = min u.writers (min v.writers u.writers) in
+      let within : few ≤ least = omega arith in record {
         first = begins_first u.seen v.seen b;
         second = noted;
         before = before;
@@ -102,6 +108,10 @@ module _ {I : Type 0} (law : Law I) where
         lawful = longer_of (λ z. keeps_law law [] z ≡ true) u.seen v.seen pass pen;
         orderly = longer_of (λ z. IsOrderly z) u.seen v.seen (begins_orderly u.seen (longer v.seen u.seen) (begins_second v.seen u.seen l.begins) l.orderly)
             (begins_orderly v.seen (longer v.seen u.seen) (begins_first v.seen u.seen l.begins) l.orderly);
+        fewer = omega arith;
+        writers = longer_of (λ z. AreOf (min u.writers (min v.writers u.writers)) z) u.seen v.seen
+            (are_of_front few least u.seen (longer v.seen u.seen) within (begins_second v.seen u.seen l.begins) l.writers)
+            (are_of_front few least v.seen (longer v.seen u.seen) within (begins_first v.seen u.seen l.begins) l.writers);
         read = refl;
         looks = refl;
       }

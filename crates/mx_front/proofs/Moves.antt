@@ -3,11 +3,12 @@ use Rattle.std.proofs.Common.{◌≡◌, ◌≢◌, ℕ, ◌+◌, ◌-◌, ◌%�
 use Rattle.std.proofs.lemmas.Bool.{cases_Bool, cases_eq}
 use mathlib.Core.Option as maybe
 use Rattle.atomic_table.specs.Table.{step, keeps, gives}
+use Rattle.mx_core.specs.Limits.{most_drawn, most_held}
 use Rattle.mx_core.specs.declared.history.Stored.{Stored}
 use Rattle.mx_core.specs.History.{is_stored, Law}
 use Rattle.mx_core.specs.State.{State, count_of, drawn, stored}
 use Rattle.mx_core.proofs.Blocks.{block_at-here, block_at-else}
-use Rattle.mx_core.proofs.Histories.{begins_more}
+use Rattle.mx_core.proofs.Histories.{begins_more, begins_self}
 use Rattle.mx_core.proofs.Owns.{own-here, own-else, keeps_law_more}
 use Rattle.mx_core.proofs.Reached.{reached_drawn, reached_stored, stored_in, reached_length}
 use Rattle.mx_lanes.specs.Held.{Held, StandsFor}
@@ -71,14 +72,14 @@ module _ {I : Type 0} (key : Key) where
 
 module _ {I : Type 0} (law : Law I) (key : Key) where
   -- a block is drawn
-  pub draws : (slots n pk : ℕ) (w : World I) (id : ℕ) (v : View I) (c : List (ℕ × Slot I)) → v.who ≡ Pen pk → v.block ≡ None → v.fresh ≡ true → v.read < key.stop → 0 < n → n ≤ 256 → n ≤ v.reserve
+  pub draws : (slots n pk : ℕ) (w : World I) (id : ℕ) (v : View I) (c : List (ℕ × Slot I)) → v.who ≡ Pen pk → v.block ≡ None → v.fresh ≡ true → v.read < key.stop → 0 < n → n ≤ most_drawn → n ≤ v.reserve
       → Good law key w → Knows key w id v
       → Goes law key w id c 2 ((w.core.state.next + n) % 2 ^ 64) (drew (step slots 2 n 0 maybe.none) (v, c) w.core.state.next)
   draws slots n pk w id v c who free fresh below pos small room good k =
       let p = pen_is key w.core id v pk k.core who in
       let s = w.core.state in
       let kept = good.kept in
-      let bound : s.next ≤ key.stop + 4096 = few_drawn law key s w.core.over kept in
+      let bound : s.next ≤ key.stop + most_held = few_drawn law key s w.core.over kept in
       let inside : pk < length s.held = omega (arith, p.made, good.most, kept.writers) in
       let not : w.core.over pk ≡ false = elim (cases_Bool (w.core.over pk)) [ inl is ↦ absurd (omega (arith, p.value fresh is, below)) | inr not ↦ not ] in
       let next = passing w.core.over key.stop pk s.next n (omega (arith, p.made, good.most, kept.few)) small not kept.bound kept.over_is in
@@ -120,6 +121,7 @@ module _ {I : Type 0} (law : Law I) (key : Key) where
         };
         mine = record {
           core = record {
+            bound = k.core.bound;
             sees = k.core.sees;
             hears = k.core.hears;
             reads = omega arith;
@@ -137,6 +139,7 @@ module _ {I : Type 0} (law : Law I) (key : Key) where
         };
         others = λ j x ne q. record {
           core = record {
+            bound = q.core.bound;
             sees = q.core.sees;
             hears = q.core.hears;
             reads = omega (arith, q.core.reads);
@@ -155,6 +158,7 @@ module _ {I : Type 0} (law : Law I) (key : Key) where
         };
         words = ap (λ m. w.line.ticket ∷ w.line.serving ∷ m ∷ length s.history ∷ []) (mod-eq_of_lt (omega (arith, bound, small, kept.small)));
         homes = refl;
+        grows = begins_self s.history;
         tells = (
           refl,
           k.core.reads,
@@ -223,6 +227,7 @@ module _ {I : Type 0} (law : Law I) (key : Key) where
         };
         mine = record {
           core = record {
+            bound = k.core.bound;
             sees = ([], sym more ∙ sym (append-nil (v.all ++ x ∷ [])));
             hears = begins_more v.heard s.history (x ∷ []) k.core.hears;
             reads = k.core.reads;
@@ -256,6 +261,7 @@ module _ {I : Type 0} (law : Law I) (key : Key) where
         };
         others = λ j y ne o. record {
           core = record {
+            bound = o.core.bound;
             sees = begins_more y.seen s.history (x ∷ []) o.core.sees;
             hears = begins_more y.heard s.history (x ∷ []) o.core.hears;
             reads = o.core.reads;
@@ -274,6 +280,7 @@ module _ {I : Type 0} (law : Law I) (key : Key) where
         };
         words = ap (λ m. w.line.ticket ∷ w.line.serving ∷ s.next ∷ m ∷ []) (count ∙ omega (arith, ap length q.whole, length-append s.history (x ∷ [])));
         homes = refl;
+        grows = (x ∷ [], refl);
         tells = λ y d hand at stood. λ i. (storing v (next_one v.all x y b stands (subst (StandsFor (v.all ++ y ∷ [])) (sym (in_hand b d hand)) stood) i) (in_hand b d hand i), (0, Some b) ∷ []);
       }
 
@@ -311,11 +318,12 @@ module _ {I : Type 0} (law : Law I) (key : Key) where
           };
         };
         mine = record {
-          core = record { sees = k.core.sees; hears = k.core.hears; reads = k.core.reads; plays = left_plays key w.core id v b.spare rooms v.who k.core.plays };
+          core = record { bound = k.core.bound; sees = k.core.sees; hears = k.core.hears; reads = k.core.reads; plays = left_plays key w.core id v b.spare rooms v.who k.core.plays };
           queued = tt;
         };
         others = λ j y ne o. record {
           core = record {
+            bound = o.core.bound;
             sees = o.core.sees;
             hears = o.core.hears;
             reads = o.core.reads;
@@ -334,5 +342,6 @@ module _ {I : Type 0} (law : Law I) (key : Key) where
         };
         words = refl;
         homes = refl;
+        grows = begins_self h;
         tells = λ d hand. λ i. (leaving v (in_hand b d hand i), []);
       }

@@ -56,6 +56,7 @@ module _ {I : Type 0} (law : Law I) where
         begins = l.begins;
         lawful = l.lawful;
         orderly = l.orderly;
+        writers = l.writers;
         reads = l.reads;
         pen = λ k who. let o = l.pen k who in record { own_is = o.own_is; block = o.block; above = o.above; apart = o.apart };
       }
@@ -259,7 +260,7 @@ module _ {I : Type 0} where
       let is : m2 ≡ (leaving (seizing v t s.all s.book.spare) g.new, []) = left g.new (ap (λ (y : Sat I). y.1) g.is) ∙ ap (λ (y : Sat I). let z : Sat I = (leaving y.0 g.new, []) in z) went.0 in
       subst (HasLooked law v) (sym is) (record {
         rests = (refl, refl);
-        looks = record { begins = s.begins; looks = refl; lawful = s.lawful; orderly = s.orderly; read = refl; reads = s.reads };
+        looks = record { begins = s.begins; looks = refl; lawful = s.lawful; orderly = s.orderly; fewer = omega arith; writers = s.writers; read = refl; reads = s.reads };
       })
 
   -- the items up to the front

@@ -3,6 +3,7 @@ use Rattle.std.proofs.Common.{◌≡◌, ◌≢◌, ℕ, zero, suc, ◌+◌, ◌
 use Rattle.std.proofs.lemmas.Bool.{cases_Bool, cases_eq, cases_lt, or_cases, or_left, or_right, eq-eqb, ne_eqb, false≢true}
 use Rattle.std.proofs.lemmas.List.{take-append-drop, take-append-le}
 use Rattle.std.proofs.Math.Seq.{take-append_seam}
+use Rattle.mx_core.specs.Limits.{most_writers, most_drawn}
 use Rattle.mx_core.specs.declared.history.Stored.{Stored}
 use Rattle.mx_core.specs.declared.machine.Block.{Block}
 use Rattle.mx_core.specs.History.{own, is_stored, Begins}
@@ -47,25 +48,25 @@ passed_more over k (suc n) lt is = elim (cases_eq n k) [
 -- the writer k draws, so that so many positions were drawn afterwards
 pub record Passing (over : ℕ → Bool) (stop k after : ℕ) : Type 0 where
   pub now : ℕ → Bool
-  pub bound : after ≤ stop + 256 * passed now 16
+  pub bound : after ≤ stop + most_drawn * passed now most_writers
   pub is : (j : ℕ) → now j ≡ true → stop ≤ after
   pub others : (j : ℕ) → j ≢ k → now j ≡ over j
 
-pub passing : (over : ℕ → Bool) (stop k next n : ℕ) → k < 16 → n ≤ 256 → over k ≡ false → next ≤ stop + 256 * passed over 16 → ((j : ℕ) → over j ≡ true → stop ≤ next)
+pub passing : (over : ℕ → Bool) (stop k next n : ℕ) → k < most_writers → n ≤ most_drawn → over k ≡ false → next ≤ stop + most_drawn * passed over most_writers → ((j : ℕ) → over j ≡ true → stop ≤ next)
     → Passing over stop k (next + n)
 passing over stop k next n lt small not bound is = elim (cases_lt (next + n) stop) [
   | inl below ↦ record { now = over; bound = omega arith; is = λ j o. let le : stop ≤ next = is j o in omega arith; others = λ j ne. refl }
   | inr past ↦
-      let more : passed (change over k true) 16 ≡ passed over 16 + 1 = passed_more over k 16 lt not in
+      let more : passed (change over k true) most_writers ≡ passed over most_writers + 1 = passed_more over k most_writers lt not in
       record { now = change over k true; bound = omega (arith, more, bound, small); is = λ j o. past; others = λ j ne. change_else over k true j ne }
 ]
 
 -- short blocks
-pub held_few : (held : List (Option Block)) → ((k : ℕ) → count_of (get_or held k None) ≤ 256) → held_count held ≤ 256 * length held
+pub held_few : (held : List (Option Block)) → ((k : ℕ) → count_of (get_or held k None) ≤ most_drawn) → held_count held ≤ most_drawn * length held
 held_few [] all = omega arith
 held_few (o ∷ held) all =
-    let first : count_of o ≤ 256 = all zero in
-    let others : held_count held ≤ 256 * length held = held_few held (λ k. all (suc k)) in
+    let first : count_of o ≤ most_drawn = all zero in
+    let others : held_count held ≤ most_drawn * length held = held_few held (λ k. all (suc k)) in
     omega arith
 
 -- beginnings of one history

@@ -2,7 +2,8 @@
 use Rattle.std.specs.Prelude.{◌≡◌, ℕ, ◌+◌, ◌^◌, ◌<◌, ◌≤◌, true, List, [], ◌∷◌, ◌++◌, None, length, max}
 use Rattle.mx_core.specs.declared.history.Stored.{Stored}
 use Rattle.mx_core.specs.Front.{IsFront}
-use Rattle.mx_core.specs.History.{own, stored_count, Begins, Law, keeps_law}
+use Rattle.mx_core.specs.History.{own, stored_count, AreOf, Begins, Law, keeps_law}
+use Rattle.mx_core.specs.Limits.{most_held}
 use Rattle.mx_core.specs.Orderly.{IsOrderly}
 use Rattle.mx_lanes.specs.Parts.{Taken, IsUpTo}
 use Rattle.mx_front.specs.declared.handles.Drawn.{Drawn}
@@ -54,14 +55,16 @@ pub record Roomier {I : Type 0} (v v' : View I) : Type 0 where
   pub read : v'.read ≡ v.read
   pub fresh : v'.fresh ≡ v.fresh
 
--- a look: the pass has then seen the stores at that moment
+-- a look: the pass has then seen the stores at that moment, each of a writer below the number that it knows
 pub record Looks {I : Type 0} (law : Law I) (v v' : View I) : Type 0 where
   pub begins : Begins v.seen v'.seen
   pub looks : v'.looks ≡ v.looks + 1
   pub lawful : keeps_law law [] v'.seen ≡ true
   pub orderly : IsOrderly v'.seen
   pub read : v'.read ≡ v.read
-  pub reads : v'.read ≤ stored_count v'.seen + 4096
+  pub fewer : v'.writers ≤ v.writers
+  pub writers : AreOf v'.writers v'.seen
+  pub reads : v'.read ≤ stored_count v'.seen + most_held
 
 -- the items up to the front of what was seen
 pub record Shows {I : Type 0} (seen : List (Stored I)) (taken : Taken I) : Type 0 where
@@ -76,6 +79,8 @@ pub record Meets {I : Type 0} (law : Law I) (v u v' : View I) : Type 0 where
   pub second : Begins u.seen v'.seen
   pub lawful : keeps_law law [] v'.seen ≡ true
   pub orderly : IsOrderly v'.seen
+  pub fewer : v'.writers ≤ v.writers
+  pub writers : AreOf v'.writers v'.seen
   pub read : v'.read ≡ max v.read u.read
   pub looks : v'.looks ≡ v.looks
 
@@ -87,5 +92,7 @@ pub record Notes {I : Type 0} (law : Law I) (k : ℕ) (pen v v' : View I) : Type
   pub after : own v'.seen k ≡ pen.own
   pub lawful : keeps_law law [] v'.seen ≡ true
   pub orderly : IsOrderly v'.seen
+  pub fewer : v'.writers ≤ v.writers
+  pub writers : AreOf v'.writers v'.seen
   pub read : v'.read ≡ max v.read pen.read
   pub looks : v'.looks ≡ v.looks

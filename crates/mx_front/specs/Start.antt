@@ -9,20 +9,21 @@ use Rattle.mx_front.specs.World.{blank}
 use Rattle.mx_front.specs.Shown.{known, number, place_of_pen, reads, seen_by, place_of_pass}
 
 module _ {I : Type 0} {g : Ghosts I} where
-  -- the pen of a writer, without a store, a block or a reserve, which has seen nothing
-  pub record IsNewPen (at : TableId) (k : ℕ) (p : Pen I g) : Type 0 where
+  -- the pen of a writer of a stream of so many, without a store, a block or a reserve, which has seen nothing
+  pub record IsNewPen (at : TableId) (writers k : ℕ) (p : Pen I g) : Type 0 where
     pub stream : place_of_pen p ≡ at
     pub writer : number p ≡ k
-    pub knows : known p ≡ blank (roles.Pen k)
+    pub knows : known p ≡ blank writers (roles.Pen k)
 
-  -- the pens of the writers below a number, in their order
-  pub record AreNewPens (at : TableId) (n : ℕ) (pens : List (Pen I g)) : Type 0 where
+  -- the pens of the first n writers, in their order
+  pub record AreNewPens (at : TableId) (writers n : ℕ) (pens : List (Pen I g)) : Type 0 where
     pub count : length pens ≡ n
-    pub each : (k : ℕ) (p : Pen I g) → slice_get pens k ≡ Some p → IsNewPen at k p
+    pub each : (k : ℕ) (p : Pen I g) → slice_get pens k ≡ Some p → IsNewPen at writers k p
 
   -- a pass that has seen nothing and never looked
-  pub record IsNewPass (at : TableId) (p : Pass I g) : Type 0 where
+  pub record IsNewPass (at : TableId) (writers : ℕ) (p : Pass I g) : Type 0 where
     pub stream : place_of_pass p ≡ at
     pub seen : seen_by p ≡ []
     pub read : (reads p).read ≡ 0
     pub looks : (reads p).looks ≡ 0
+    pub bound : (reads p).writers ≡ writers

@@ -1,9 +1,10 @@
 -- What each step at a stream's table tells: of the step, the seat before, the number found and the seat after.
-use Rattle.std.specs.Prelude.{◌≡◌, ◌≢◌, ℕ, ◌+◌, ◌-◌, ◌^◌, ◌<◌, ◌≤◌, true, false, List, [], ◌∷◌, ◌++◌, Option, Some, None, length, slice_index, max, nat_le, if◌then◌else◌}
+use Rattle.std.specs.Prelude.{◌≡◌, ◌≢◌, ℕ, ◌+◌, ◌-◌, ◌^◌, ◌<◌, ◌≤◌, true, false, List, [], ◌∷◌, ◌++◌, Option, Some, None, length, slice_index, max, min, nat_le, if◌then◌else◌}
 use Rattle.atomic_table.specs.Table.{Me, Step}
 use Rattle.mx_core.specs.declared.history.Stored.{Stored}
 use Rattle.mx_core.specs.declared.machine.Block.{Block}
-use Rattle.mx_core.specs.History.{own, is_stored, stored_count, Begins, Law, keeps_law}
+use Rattle.mx_core.specs.History.{own, is_stored, stored_count, AreOf, Begins, Law, keeps_law}
+use Rattle.mx_core.specs.Limits.{most_writers, most_held}
 use Rattle.mx_core.specs.Orderly.{IsOrderly, top}
 use Rattle.mx_lanes.specs.Held.{Held, StandsFor}
 use Rattle.mx_front.specs.declared.view.Role.{Role}
@@ -52,7 +53,8 @@ pub record Looked {I : Type 0} (law : Law I) (v : View I) (found : ℕ) : Type 0
   pub begins : Begins v.seen v.all
   pub lawful : keeps_law law [] v.all ≡ true
   pub orderly : IsOrderly v.all
-  pub reads : v.read ≤ stored_count v.all + 4096
+  pub writers : AreOf v.writers v.all
+  pub reads : v.read ≤ stored_count v.all + most_held
   pub pen : (k : ℕ) → v.who ≡ Pen k → OwnIn v v.all k
 
 abbrev pub looking : {I : Type 0} → View I → View I
@@ -107,6 +109,7 @@ pub record Learned {I : Type 0} (law : Law I) (v : View I) : Type 0 where
   pub begins : Begins (shorter v.seen v.heard) (longer v.seen v.heard)
   pub lawful : keeps_law law [] (longer v.seen v.heard) ≡ true
   pub orderly : IsOrderly (longer v.seen v.heard)
+  pub writers : AreOf v.writers (longer v.seen v.heard)
   pub seen : (k : ℕ) → v.who ≡ Pen k → Begins (own v.seen k) v.own
   pub heard : (k : ℕ) → v.who ≡ Pen k → Begins (own v.heard k) v.own
 
@@ -126,22 +129,22 @@ abbrev pub next_maker : {I : Type 0} → View I → View I
 next_maker v = record v { who = maker_after v.who }
 
 abbrev pub new_pen : {I : Type 0} → View I → View I
-new_pen v = blank (pen_after v.who)
+new_pen v = blank v.writers (pen_after v.who)
 
 abbrev pub same : {I : Type 0} → View I → View I
 same v = v
 
 -- a new reader that has seen as much
 abbrev pub reader_of : {I : Type 0} → View I → View I
-reader_of v = record (blank Reader) { seen = v.seen; read = v.read }
+reader_of v = record (blank v.writers Reader) { seen = v.seen; read = v.read }
 
 -- a seat that was joined to another
 abbrev pub spent : {I : Type 0} → View I
-spent = blank Reader
+spent = blank most_writers Reader
 
 -- the first seat after a join: it has seen the longer list and has heard of the shorter
 abbrev pub both : {I : Type 0} → View I → View I → View I
-both v w = record v { seen = longer v.seen w.seen; heard = shorter v.seen w.seen; read = max v.read w.read }
+both v w = record v { seen = longer v.seen w.seen; heard = shorter v.seen w.seen; read = max v.read w.read; writers = min v.writers w.writers }
 
 abbrev pub hearing : {I : Type 0} → View I → View I → View I
-hearing v w = record v { heard = w.seen }
+hearing v w = record v { heard = w.seen; writers = min v.writers w.writers }

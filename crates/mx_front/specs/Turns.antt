@@ -3,7 +3,8 @@ use Rattle.std.specs.Prelude.{◌≡◌, ℕ, ◌+◌, ◌^◌, ◌<◌, ◌≤�
 use Rattle.mx_core.specs.declared.history.Stored.{Stored}
 use Rattle.mx_core.specs.Front.{IsFront}
 use Rattle.mx_core.specs.Orderly.{IsOrderly}
-use Rattle.mx_core.specs.History.{is_stored, stored_count, Begins, Law, keeps_law}
+use Rattle.mx_core.specs.History.{is_stored, stored_count, AreOf, Begins, Law, keeps_law}
+use Rattle.mx_core.specs.Limits.{most_held}
 use Rattle.mx_lanes.specs.Held.{Held, StandsFor, Keeps}
 use Rattle.mx_front.specs.declared.view.Role.TheVariants.{Pen}
 use Rattle.mx_front.specs.declared.view.Turn.TheVariants.{Has}
@@ -44,7 +45,8 @@ pub record Seized {I : Type 0} (law : Law I) (v : View I) (ticket : ℕ) (m : Sa
   pub begins : Begins v.seen all
   pub lawful : keeps_law law [] all ≡ true
   pub orderly : IsOrderly all
-  pub reads : v.read ≤ stored_count all + 4096
+  pub writers : AreOf v.writers all
+  pub reads : v.read ≤ stored_count all + most_held
   pub pen : (k : ℕ) → v.who ≡ Pen k → OwnIn v all k
 
 -- a pen that has looked may store

@@ -6,6 +6,7 @@ use Rattle.atomic_table.specs.Table as table
 use Rattle.mx_core.specs.declared.history.Stored.{Stored}
 use Rattle.mx_core.specs.declared.machine.Block.{Block}
 use Rattle.mx_core.specs.History.{own, Begins, Law, keeps_law}
+use Rattle.mx_core.specs.Limits.{most_writers, most_drawn, last_stop}
 use Rattle.mx_core.specs.Runs.{IsReached}
 use Rattle.mx_core.specs.State.{State, block_of, count_of}
 use Rattle.mx_lanes.specs.Held.{Held, StandsFor}
@@ -61,11 +62,11 @@ pub record Kept {I : Type 0} (law : Law I) (key : Key) (s : State I) (over : ℕ
   pub reached : IsReached s
   pub limit : s.limit ≡ 2 ^ 48
   pub writers : length s.held ≡ key.writers
-  pub few : key.writers ≤ 16
-  pub small : key.stop ≤ 281474976694272
-  pub bound : s.next ≤ key.stop + 256 * passed over 16
+  pub few : key.writers ≤ most_writers
+  pub small : key.stop ≤ last_stop
+  pub bound : s.next ≤ key.stop + most_drawn * passed over most_writers
   pub over_is : (k : ℕ) → over k ≡ true → key.stop ≤ s.next
-  pub blocks : (k : ℕ) → count_of (block_of s k) ≤ 256
+  pub blocks : (k : ℕ) → count_of (block_of s k) ≤ most_drawn
   pub lawful : keeps_law law [] s.history ≡ true
 
 -- a writer whose pen isn't made yet
@@ -133,8 +134,9 @@ Plays key w j mine held reserve read fresh Reader = Unit {0}
 Plays key w j mine held reserve read fresh (Maker k) = (w.maker ≡ j) × (w.made ≡ k)
 Plays key w j mine held reserve read fresh (Pen k) = PenOf key w j mine held reserve read fresh k
 
--- what a seat has seen and heard of begins the history, and what it has read of the word was there
+-- a seat knows a bound on the number of writers, what it has seen and heard of begins the history, and what it has read of the word was there
 pub record Knowing {I : Type 0} (key : Key) (w : Core I) (j : ℕ) (v : View I) : Type 0 where
+  pub bound : key.writers ≤ v.writers
   pub sees : Begins v.seen w.state.history
   pub hears : Begins v.heard w.state.history
   pub reads : v.read ≤ w.state.next
@@ -152,9 +154,9 @@ pub record Ruled {I : Type 0} (law : Law I) (key : Key) (s : table.State (Slot I
   pub good : Good law key world
   pub knows : (j : ℕ) (v : View I) → get_elem? s.views j ≡ maybe.some v → Knows key world j v
 
--- a seat that knows nothing, and the first seat
-abbrev pub blank : {I : Type 0} → Role → View I
-blank who = record { turn = Idle; who = who; block = None; reserve = 0; read = 0; fresh = false; looks = 0; of = record {}; seen = []; heard = []; own = []; all = []; spares = [] }
+-- a seat that knows a bound on the number of writers alone, and the first seat
+abbrev pub blank : {I : Type 0} → ℕ → Role → View I
+blank writers who = record { turn = Idle; who = who; block = None; reserve = 0; read = 0; fresh = false; looks = 0; writers = writers; of = record {}; seen = []; heard = []; own = []; all = []; spares = [] }
 
-abbrev pub opening_view : {I : Type 0} → View I
-opening_view = blank (Maker 0)
+abbrev pub opening_view : {I : Type 0} → Key → View I
+opening_view key = blank key.writers (Maker 0)

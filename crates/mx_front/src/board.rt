@@ -4,7 +4,7 @@
 //! 3 the number of stores. The slot has the book, unless the seat whose ticket is served has it in hand.
 
 use crate::view::View;
-use atomic_table::{Seat, Shared, Table, TableRule};
+use atomic_table::{Seat, Table, TableRule};
 use mx_core::Placed;
 use mx_lanes::Book;
 use std::alloc::Global;
@@ -35,10 +35,8 @@ impl<I: Placed> TableRule<Option<Book<I>>, View<I>, Key> for Order {
 
     ghost holds = { Ruled I.lawful };
 
-    ghost first = { λ _. opening_view };
+    ghost first = { opening_view };
 }
-
-pub type Top<I> = Shared<Option<Book<I>>, View<I>, Key, Order>;
 
 pub type Board<I> = Table<Option<Book<I>>, View<I>, Key, Order, Global>;
 

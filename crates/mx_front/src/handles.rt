@@ -3,7 +3,8 @@
 ghost use Rattle.std.specs.Prelude.{◌≡◌, [], true, length};
 ghost use Rattle.mx_core.specs.Orderly.{IsOrderly};
 ghost use Rattle.mx_core.proofs.Orders.{IsOrderly-prop};
-ghost use Rattle.mx_core.specs.History.{own, keeps_law};
+ghost use Rattle.mx_core.specs.History.{own, AreOf, keeps_law};
+ghost use Rattle.mx_core.proofs.Owns.{AreOf-prop};
 ghost use Rattle.mx_front.specs.declared.view.Role.TheVariants as roles;
 ghost use Rattle.mx_front.specs.declared.view.Turn.TheVariants.{Idle};
 
@@ -50,4 +51,5 @@ pub struct Pass<I: Placed> {
     ghost lawful: { keeps_law I.lawful [] seat.me.0.seen ≡ true },
     ghost orderly: { IsOrderly seat.me.0.seen } by { IsOrderly-prop seat.me.0.seen },
     ghost counted: { stores ≡ length seat.me.0.seen },
+    ghost of_writers: { AreOf seat.me.0.writers seat.me.0.seen } by { AreOf-prop seat.me.0.writers seat.me.0.seen },
 }

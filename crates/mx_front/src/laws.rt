@@ -1,6 +1,6 @@
 //! The interleaving law of a stream: the contract of a function with an empty body.
 
-ghost use Rattle.mx_front.specs.Laws.{SeesOneHistory};
+ghost use Rattle.mx_front.specs.Laws.{SeesOneHistory, StepsGrow};
 
 use mx_core::Placed;
 
@@ -10,4 +10,9 @@ use mx_core::Placed;
 /// knows all its stores.
 pub fn seats_see_one_history<I: Placed>()
     ensures { SeesOneHistory I.lawful }
+{}
+
+/// The history of a stream grows: whatever begins it before a step of a seat begins it after the step.
+pub fn steps_keep_history<I: Placed>()
+    ensures { StepsGrow I.lawful }
 {}

@@ -7,16 +7,16 @@ mod front;
 mod handles;
 mod laws;
 mod plays;
+mod queue;
 mod reading;
 mod start;
-#[cfg(test)]
-mod tests;
 mod turns;
 mod view;
 mod writing;
 
 pub use front::Stream;
 pub use handles::{Drawn, Full, Pass, Pen};
-pub use laws::seats_see_one_history;
+pub use laws::{seats_see_one_history, steps_keep_history};
+pub use queue::Owed;
 pub use start::stream;
 pub use view::{Role, Turn, View};

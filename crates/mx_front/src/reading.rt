@@ -31,9 +31,9 @@ impl<I: Placed + Copied> Stream<I> {
         ensures seen { Looks I.lawful (reads pass.old) (reads pass.new) }
         ensures parts { IfOk result (λ parts. Shows (seen_by pass.new) parts) }
     {
-        let ticket = self.seize(rt, &mut pass.seat, &mut pass.stores);
+        let owed = self.seize(rt, &mut pass.seat, &mut pass.stores);
         let parts = self.read_parts(alloc, &mut pass.seat);
-        self.leave(&mut pass.seat, ticket);
+        self.leave(&mut pass.seat, owed);
         parts
     }
 }
@@ -46,8 +46,8 @@ impl<I: Placed + Drop> Stream<I> {
         ensures stream { place_of_pass pass.new ≡ place_of_pass pass.old }
         ensures seen { Looks I.lawful (reads pass.old) (reads pass.new) }
     {
-        let ticket = self.seize(rt, &mut pass.seat, &mut pass.stores);
-        self.leave(&mut pass.seat, ticket);
+        let owed = self.seize(rt, &mut pass.seat, &mut pass.stores);
+        self.leave(&mut pass.seat, owed);
     }
 
     /// A new pass that has seen what a pass of this stream has seen, and has kept its value of `next`. Always `Ok`: a

@@ -4,7 +4,8 @@ ghost use Rattle.std.specs.Prelude.{◌≡◌, ◌+◌, ◌<◌, ◌≤◌, [], 
 ghost use Rattle.mx_front.specs.declared.view.Role.TheVariants as roles;
 ghost use Rattle.mx_front.specs.Shown.{place_of, stop_of, writers_of};
 ghost use Rattle.mx_front.specs.Start.{IsNewPen, IsNewPass, AreNewPens};
-ghost use Rattle.mx_front.specs.World.{blank, opening_view};
+ghost use Rattle.mx_core.specs.Limits.{most_writers, last_stop};
+ghost use Rattle.mx_front.specs.World.{blank};
 
 use crate::board::{Board, Key, Place};
 use crate::front::Stream;
@@ -25,11 +26,11 @@ pub fn stream<I: Placed + Drop>(
     writers: u8,
     stop: u64,
 ) -> Result<(Stream<I>, Seq<Pen<I>>, Pass<I>), Memory>
-    requires writers { (1 ≤ writers) × (writers ≤ 16) }
-    requires stop { stop ≤ 281474976694272 }
+    requires writers { (1 ≤ writers) × (writers ≤ most_writers) }
+    requires stop { stop ≤ last_stop }
     ensures key { IfOk result (λ r. (stop_of r.0 ≡ stop) × (writers_of r.0 ≡ writers)) }
-    ensures pens { IfOk result (λ r. AreNewPens (place_of r.0) writers r.1) }
-    ensures pass { IfOk result (λ r. IsNewPass (place_of r.0) r.2) }
+    ensures pens { IfOk result (λ r. AreNewPens (place_of r.0) (writers_of r.0) writers r.1) }
+    ensures pass { IfOk result (λ r. IsNewPass (place_of r.0) (writers_of r.0) r.2) }
 {
     let (stream, mut maker) = open(alloc, writers, stop)?;
     let mut pens = Seq::new(alloc);
@@ -49,10 +50,10 @@ fn open<I: Placed + Drop>(
     writers: u8,
     stop: u64,
 ) -> Result<(Stream<I>, Place<I>), Memory>
-    requires writers { (1 ≤ writers) × (writers ≤ 16) }
-    requires stop { stop ≤ 281474976694272 }
+    requires writers { (1 ≤ writers) × (writers ≤ most_writers) }
+    requires stop { stop ≤ last_stop }
     ensures key { IfOk result (λ r. (stop_of r.0 ≡ stop) × (writers_of r.0 ≡ writers)) }
-    ensures maker { IfOk result (λ r. (r.1.table_id ≡ place_of r.0) × (r.1.me ≡ (opening_view, []))) }
+    ensures maker { IfOk result (λ r. (r.1.table_id ≡ place_of r.0) × (r.1.me ≡ (blank (writers_of r.0) (roles.Maker 0), []))) }
 {
     let book = Book::new(alloc, writers)?;
     let mut slots = Vec::with_capacity(alloc, 1)?;
@@ -75,10 +76,10 @@ impl<I: Placed + Drop> Stream<I> {
     fn make_pen(&self, maker: &mut Place<I>, writer: u8) -> Pen<I>
         requires table { maker.old.table_id ≡ place_of self.now }
         requires writer { writer < writers_of self.now }
-        requires maker { maker.old.me ≡ (blank (roles.Maker writer), []) }
+        requires maker { maker.old.me ≡ (blank (writers_of self.now) (roles.Maker writer), []) }
         ensures table { maker.new.table_id ≡ maker.old.table_id }
-        ensures maker { maker.new.me ≡ (blank (roles.Maker (writer + 1)), []) }
-        ensures pen { IsNewPen (place_of self.now) writer result }
+        ensures maker { maker.new.me ≡ (blank (writers_of self.now) (roles.Maker (writer + 1)), []) }
+        ensures pen { IsNewPen (place_of self.now) (writers_of self.now) writer result }
     {
         let seat = self.table.shared.split_seat::<plays::PenMade>(maker);
         Pen {

@@ -10,6 +10,7 @@ ghost use Rattle.mx_front.specs.Turns.{holding, HasBook, Entered, Seized, Ready,
 use crate::board::{COUNT, Place, SERVING, TICKET};
 use crate::front::Stream;
 use crate::plays;
+use crate::queue::Owed;
 use mx_core::Placed;
 use mx_ids::{Copied, Memory, Seq};
 use mx_lanes::{Book, Parts};
@@ -60,29 +61,29 @@ impl<I: Placed + Drop> Stream<I> {
         unreachable!()
     }
 
-    /// Waits for a turn, and takes the book. Returns the ticket.
-    pub(crate) fn enter<R: Wait>(&self, rt: &R, seat: &mut Place<I>) -> u64
+    /// Waits for a turn, and takes the book.
+    pub(crate) fn enter<R: Wait>(&self, rt: &R, seat: &mut Place<I>) -> Owed
         requires table { seat.old.table_id ≡ self.now.table.shared.table_id }
         requires bare { seat.old.me.1 ≡ [] }
         ensures table { seat.new.table_id ≡ seat.old.table_id }
-        ensures entered { Entered seat.old.me.0 result seat.new.me }
+        ensures entered { Entered seat.old.me.0 result.ticket seat.new.me }
     {
         let ticket = self.claim(rt, seat);
         self.come(rt, seat, ticket);
-        ticket
+        Owed { ticket }
     }
 
-    /// Waits for a turn, takes the book, and looks at its stores: `count` is then their number. Returns the ticket.
-    pub(crate) fn seize<R: Wait>(&self, rt: &R, seat: &mut Place<I>, count: &mut u64) -> u64
+    /// Waits for a turn, takes the book, and looks at its stores: `count` is then their number.
+    pub(crate) fn seize<R: Wait>(&self, rt: &R, seat: &mut Place<I>, count: &mut u64) -> Owed
         requires table { seat.old.table_id ≡ self.now.table.shared.table_id }
         requires bare { seat.old.me.1 ≡ [] }
         ensures table { seat.new.table_id ≡ seat.old.table_id }
-        ensures seized { Seized I.lawful seat.old.me.0 result seat.new.me }
+        ensures seized { Seized I.lawful seat.old.me.0 result.ticket seat.new.me }
         ensures count { count.new ≡ length seat.new.me.0.seen }
     {
-        let ticket = self.enter(rt, seat);
+        let owed = self.enter(rt, seat);
         *count = self.table.shared.load::<plays::Looked<I>>(seat, COUNT);
-        ticket
+        owed
     }
 
     /// Takes the book out of the slot in hand.
@@ -151,12 +152,13 @@ impl<I: Placed + Drop> Stream<I> {
     }
 
     /// Ends the turn: the book goes back, and the next ticket is served.
-    pub(crate) fn leave(&self, seat: &mut Place<I>, ticket: u64)
+    pub(crate) fn leave(&self, seat: &mut Place<I>, owed: Owed)
         requires table { seat.old.table_id ≡ self.now.table.shared.table_id }
-        requires turn { (b : Held I) × MayLeave seat.old.me ticket b }
+        requires turn { (b : Held I) × MayLeave seat.old.me owed.ticket b }
         ensures table { seat.new.table_id ≡ seat.old.table_id }
         ensures left { (b : Held I) → seat.old.me.1 ≡ holding b → seat.new.me ≡ (leaving seat.old.me.0 b, []) }
     {
+        let Owed { ticket } = owed;
         self.table
             .shared
             .store::<plays::Left>(seat, SERVING, ticket + 1);

@@ -40,6 +40,8 @@ pub struct View<I> {
     pub fresh: bool,
     /// The number of looks.
     pub looks: u64,
+    /// Each store of the stream is of a writer below this number.
+    pub writers: u8,
     of: PhantomData<Stored<I>>,
     /// The stores that it has seen.
     pub ghost seen: { List (Stored I) },

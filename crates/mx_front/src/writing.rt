@@ -1,6 +1,7 @@
 //! What a pen does: it draws a block, makes room for it, and stores it.
 
 ghost use Rattle.std.specs.Prelude.{◌≡◌, ◌<◌, ◌≤◌, true, None, length, IfOk, IfErr, OnOk};
+ghost use Rattle.mx_core.specs.Limits.{most_drawn};
 ghost use Rattle.mx_front.specs.Calls.{Draws, Fills, Finishes, Roomier};
 ghost use Rattle.mx_front.specs.Shown.{place_of, stop_of, known, number, place_of_pen};
 ghost use Rattle.mx_front.specs.Told.{block_at};
@@ -20,7 +21,7 @@ impl<I: Placed + Drop> Stream<I> {
     /// read at the stream's stop or past it by this call; then nothing is drawn.
     pub fn draw(&self, pen: &mut Pen<I>, n: u16) -> Result<Drawn, Full>
         requires stream { place_of_pen pen.old ≡ place_of self.now }
-        requires count { (1 ≤ n) × (n ≤ 256) }
+        requires count { (1 ≤ n) × (n ≤ most_drawn) }
         requires free { (known pen.old).block ≡ None }
         requires room { n ≤ (known pen.old).reserve }
         ensures stream { (place_of_pen pen.new ≡ place_of_pen pen.old) × (number pen.new ≡ number pen.old) }
@@ -47,9 +48,9 @@ impl<I: Placed + Drop> Stream<I> {
         ensures room { OnOk result (n ≤ (known pen.new).reserve) }
         ensures kept { Roomier (known pen.old) (known pen.new) }
     {
-        let ticket = self.enter(rt, &mut pen.seat);
+        let owed = self.enter(rt, &mut pen.seat);
         let made = self.more_room(&mut pen.seat, pen.writer, n);
-        self.leave(&mut pen.seat, ticket);
+        self.leave(&mut pen.seat, owed);
         made
     }
 
@@ -64,7 +65,7 @@ impl<I: Placed + Drop> Stream<I> {
         ensures stream { (place_of_pen pen.new ≡ place_of_pen pen.old) × (number pen.new ≡ number pen.old) }
         ensures stored { Finishes I.lawful (known pen.old) (record { writer = number pen.old; first = drawn.first; items = items }) result (known pen.new) }
     {
-        let ticket = self.seize(rt, &mut pen.seat, &mut pen.stores);
+        let owed = self.seize(rt, &mut pen.seat, &mut pen.stores);
         let front = self.put_store(
             &mut pen.seat,
             pen.writer,
@@ -72,7 +73,7 @@ impl<I: Placed + Drop> Stream<I> {
             items,
             &mut pen.stores,
         );
-        self.leave(&mut pen.seat, ticket);
+        self.leave(&mut pen.seat, owed);
         front
     }
 }

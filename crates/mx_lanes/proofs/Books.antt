@@ -1,5 +1,5 @@
 -- What each call of a book needs of its fields, over plain values.
-use Rattle.std.proofs.Common.{◌≡◌, ℕ, ◌+◌, ◌-◌, ◌<◌, ◌≤◌, ◌^◌, ◌⊎◌, zero, suc, false, Some, Result, Ok, if◌then◌else◌, List, [], ◌∷◌, ◌++◌, length, get_or, set, take, drop, replicate, min, refl, sym, ap, ◌∙◌, subst, inl, inr, arith}
+use Rattle.std.proofs.Common.{◌≡◌, ℕ, ◌+◌, ◌-◌, ◌<◌, ◌≤◌, ◌^◌, ◌⊎◌, zero, suc, false, Some, Result, Ok, if◌then◌else◌, List, [], ◌∷◌, ◌++◌, length, get_or, set, take, drop, replicate, min, refl, sym, ap, ap₂, ◌∙◌, subst, inl, inr, arith}
 use Rattle.std.specs.List.{AllByRecursion, slice_get}
 use Rattle.std.specs.Option.{is_some}
 use Rattle.std.specs.Result.{is_ok}
@@ -8,7 +8,7 @@ use Rattle.std.proofs.lemmas.List.{append-nil, append_assoc, take_more, drop_all
 use Rattle.mx_core.specs.declared.history.Stored.{Stored}
 use Rattle.mx_core.specs.Front.{IsFront}
 use Rattle.mx_core.specs.History.{item_at, is_stored, items_of}
-use Rattle.mx_lanes.specs.Book.{IsBook}
+use Rattle.mx_lanes.specs.Book.{IsBook, IsShelved}
 use Rattle.mx_lanes.specs.Held.{Held, Keeps, OthersKeep, spare_of}
 use Rattle.mx_lanes.specs.Order.{by_index, IsReach}
 use Rattle.mx_lanes.specs.Parts.{IsUpTo, part_at}
@@ -151,13 +151,31 @@ pub items_of-push : {I : Type 0} (ss : List (Stored I)) (s : Stored I) → items
 items_of-push [] s = append-nil s.items
 items_of-push (t ∷ ss) s = ap (λ l. t.items ++ l) (items_of-push ss s) ∙ sym (append_assoc t.items (items_of ss) s.items)
 
-pub copied_more : {I : Type 0} (ss : List (Stored I)) (k most count have : ℕ) (s : Stored I) (from items grown : List I) → slice_get ss k ≡ Some s → from ≡ s.items → items ≡ take most (items_of (take k ss))
-    → have ≡ length items → count ≡ min (length from) (most - have) → grown ≡ items ++ take count from → grown ≡ take most (items_of (take (k + 1) ss))
-copied_more ss k most count have s from items grown at is made size n more =
+pub shelved_more : {I : Type 0} (ss : List (Stored I)) (k : ℕ) (s : Stored I) (from shelf grown : List I) → slice_get ss k ≡ Some s → from ≡ s.items → shelf ≡ items_of (take k ss)
+    → grown ≡ shelf ++ from → grown ≡ items_of (take (k + 1) ss)
+shelved_more ss k s from shelf grown at is had more =
     let next : suc k ≡ k + 1 = omega arith in
-    more ∙ ap (λ l. l ++ take count from) made ∙ ap (λ l. take most (items_of (take k ss)) ++ take count l) is
-    ∙ take_fill most count (items_of (take k ss)) s.items (omega (arith, n, size, ap length made, ap length is))
-    ∙ ap (take most) (sym (items_of-push (take k ss) s) ∙ ap items_of (sym (take_found ss k s at) ∙ ap (λ i. take i ss) next))
+    more ∙ ap₂ (λ a b. a ++ b) had is ∙ sym (items_of-push (take k ss) s) ∙ ap items_of (sym (take_found ss k s at) ∙ ap (λ i. take i ss) next)
+
+take_kept : {A : Type 0} (n place : ℕ) (xs rest : List A) → n ≤ place → place ≤ length xs → take n (take place xs ++ rest) ≡ take n xs
+take_kept zero place xs rest low high = refl
+take_kept (suc n) zero xs rest low high = absurd (omega (arith, low))
+take_kept (suc n) (suc place) [] rest low high = absurd (omega (arith, high))
+take_kept (suc n) (suc place) (x ∷ xs) rest low high = ap (λ l. x ∷ l) (take_kept n place xs rest (omega (arith, low)) (omega (arith, high)))
+
+-- the stores that reach the front stay first
+pub kept_stores : {I : Type 0} (h longer : List (Stored I)) (order more : List ℕ) (place index : ℕ) (x : Stored I) (passed : ℕ) → AllByRecursion (λ i. i < length h) order
+    → longer ≡ h ++ x ∷ [] → more ≡ take place order ++ index ∷ drop place order → index ≡ length h → passed ≤ place → place ≤ length order
+    → (n : ℕ) → n ≤ passed → take n (by_index longer more) ≡ take n (by_index h order)
+kept_stores {I} h longer order more place index x passed valid grown put at low high n within =
+    ap (take n) (ap₂ (λ (a : List (Stored I)) b. by_index a b) grown (put ∙ ap (λ k. take place order ++ k ∷ drop place order) at) ∙ insert_named h x order place valid high)
+    ∙ take_kept n place (by_index h order) (x ∷ drop place (by_index h order)) (omega (arith, within, low)) (omega (arith, high, length-by_index h order valid))
+
+pub shelved_same : {I : Type 0} (h seen : List (Stored I)) (order places : List ℕ) (passed shelved : ℕ) (shelf : List I) → IsShelved h order passed shelved shelf → seen ≡ h → places ≡ order → IsShelved seen places passed shelved shelf
+shelved_same {I} h seen order places passed shelved shelf b e f = record {
+  within = b.within;
+  items = b.items ∙ ap (λ l. items_of (take shelved l)) (ap₂ (λ (a : List (Stored I)) o. by_index a o) (sym e) (sym f));
+}
 
 pub above_none : {I : Type 0} (ss : List (Stored I)) (n first : ℕ) → length ss ≤ n → AllByRecursion (λ s. first < s.first) (drop n ss)
 above_none ss n first le = subst (AllByRecursion (λ s. first < s.first)) (sym (drop_all n ss le)) tt
@@ -181,3 +199,10 @@ pub taken_at : {I : Type 0} (h seen : List (Stored I)) (order places : List ℕ)
     → items ≡ take last (items_of (take passed (by_index seen places))) → stores ≡ length h → IsUpTo h last (record { items = items; stores = stores })
 taken_at {I} h seen order places passed front last items stores b le e f is count =
     taken h order passed front last items stores b le (is ∙ ap (λ (l : List (Stored I)). take last (items_of (take passed (by_index l places)))) e ∙ ap (λ l. take last (items_of (take passed (by_index h l)))) f) count
+
+-- the shelf reaches the front
+pub shelf_reaches : {I : Type 0} (h seen : List (Stored I)) (order places : List ℕ) (passed front last : ℕ) (shelf : List I) → IsBook h order passed front → last ≤ front → seen ≡ h → places ≡ order
+    → shelf ≡ items_of (take passed (by_index seen places)) → last ≤ length shelf
+shelf_reaches {I} h seen order places passed front last shelf b le e f is =
+    let same : shelf ≡ items_of (take passed (by_index h order)) = is ∙ ap (λ l. items_of (take passed l)) (ap₂ (λ (a : List (Stored I)) o. by_index a o) e f) in
+    omega (arith, ap length same, reach_length (by_index h order) passed front 1 b.reach, le)

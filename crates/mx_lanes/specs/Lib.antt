@@ -4,3 +4,4 @@ pub mod Laws
 pub mod Order
 pub mod Parts
 pub mod Room
+pub mod Segments

@@ -6,9 +6,11 @@ ghost use Rattle.mx_core.specs.History.{is_stored};
 ghost use Rattle.mx_lanes.specs.Held.{empty, spare_of, Keeps, OthersKeep};
 ghost use Rattle.mx_lanes.specs.Parts.{IsUpTo};
 
-use crate::order::{Reach, copy_items, put_store};
+use crate::order::{Reach, put_store};
 use crate::parts::Parts;
 use crate::room::total_spare;
+use crate::shelf::Shelf;
+use crate::shelving::shelve;
 use mx_core::Stored;
 use mx_ids::{Copied, Memory, Seq};
 use std::alloc::Global;
@@ -25,13 +27,17 @@ pub struct Book<I> {
     order: Vec<usize>,
     reach: Reach,
     spares: Vec<u16>,
+    /// The items of the first stores of the order, as parts share them.
+    shelf: Shelf<I>,
+    /// How many stores these are.
+    shelved: usize,
 }
 
 impl<I> Model for Book<I> {
     ghost use Rattle.std.specs.Prelude.{◌≤◌, length};
     ghost use Rattle.std.specs.Vec.{vec_len, vec_capacity};
     ghost use Rattle.mx_lanes.specs.Held.{Held};
-    ghost use Rattle.mx_lanes.specs.Book.{IsBook};
+    ghost use Rattle.mx_lanes.specs.Book.{IsBook, IsShelved};
     ghost use Rattle.mx_lanes.specs.Room.{HasRoom};
 
     ghost Value = { Held I };
@@ -41,7 +47,8 @@ impl<I> Model for Book<I> {
     ghost invariant = { λ b. IsBook b.history.items b.order.items b.reach.passed b.reach.front
         × HasRoom b.spares.items (vec_len b.history) (vec_capacity b.history)
         × HasRoom b.spares.items (vec_len b.order) (vec_capacity b.order)
-        × (length b.spares.items ≤ 255) };
+        × (length b.spares.items ≤ 255)
+        × IsShelved b.history.items b.order.items b.reach.passed b.shelved b.shelf };
 }
 
 impl<I: Drop> Book<I> {
@@ -57,6 +64,8 @@ impl<I: Drop> Book<I> {
                 front: 0,
             },
             spares: vec![in alloc; 0; usize::from(writers)]?,
+            shelf: Shelf::new(alloc),
+            shelved: 0,
         })
     }
 
@@ -135,14 +144,15 @@ impl<I: Copied> Book<I> {
         ensures found { IfOk result (λ parts. IsUpTo self.old.history front parts) }
         ensures kept { Keeps self.old self.new }
     {
-        let items = copy_items(
+        shelve(
             alloc,
             self.history.as_slice(),
             self.order.as_slice(),
             self.reach.passed,
-            front as usize,
+            &mut self.shelf,
+            &mut self.shelved,
         )?;
-        Ok(Parts::new(Seq::from_vec(items), self.history.len() as u64))
+        self.shelf.parts(alloc, front, self.history.len() as u64)
     }
 }
 

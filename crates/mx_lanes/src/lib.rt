@@ -7,7 +7,15 @@ mod laws;
 mod order;
 mod parts;
 mod room;
+mod shared;
+mod shelf;
+mod shelving;
 
 pub use book::Book;
-pub use laws::{book_stands_for_one_history, book_stands_still, book_stands_with_one_store_more};
+pub use laws::{
+    book_stands_for_one_history, book_stands_still, book_stands_with_one_store_more,
+    parts_are_covered,
+};
 pub use parts::Parts;
+pub use shared::Shared;
+pub use shelf::Shelf;

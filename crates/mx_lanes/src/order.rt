@@ -1,16 +1,14 @@
 //! The order of a book's stores by position: a list of indices into its history.
 
-ghost use Rattle.std.specs.Prelude.{◌≡◌, ◌<◌, ◌≤◌, ◌+◌, ◌-◌, ◌^◌, [], ◌∷◌, ◌++◌, ◌⊎◌, ℕ, false, length, take, drop, slice_get, Some, IfOk, OnOk, vec_len};
+ghost use Rattle.std.specs.Prelude.{◌≡◌, ◌<◌, ◌≤◌, ◌+◌, ◌-◌, ◌^◌, [], ◌∷◌, ◌++◌, ◌⊎◌, ℕ, false, length, take, drop, slice_get, Some, vec_len};
 ghost use Rattle.std.specs.Vec.{vec_capacity};
 ghost use Rattle.std.specs.List.{AllByRecursion};
 ghost use Rattle.mx_core.specs.declared.history.Stored.{Stored};
-ghost use Rattle.mx_core.specs.History.{is_stored, items_of};
+ghost use Rattle.mx_core.specs.History.{is_stored};
 ghost use Rattle.mx_lanes.specs.Book.{IsBook};
 ghost use Rattle.mx_lanes.specs.Order.{by_index, IsReach};
 
 use mx_core::Stored;
-use mx_ids::{Copied, Memory};
-use std::alloc::Global;
 
 /// How far the stores reach from position 1 on without a gap.
 #[derive(Clone, Copy, Debug)]
@@ -53,7 +51,8 @@ pub fn place_for<I>(history: &[Stored<I>], order: &[usize], passed: usize, first
 pub fn advanced<I>(history: &[Stored<I>], order: &[usize], from: Reach) -> Reach
     requires valid { AllByRecursion (λ i. i < length history.now) order.now }
     requires reach { IsReach (by_index history.now order.now) from.passed from.front 0 }
-    ensures { IsReach (by_index history.now order.now) result.passed result.front 1 }
+    ensures reach { IsReach (by_index history.now order.now) result.passed result.front 1 }
+    ensures passed { from.passed ≤ result.passed }
 {
     let mut reach = from;
     'stores: while reach.passed < order.len() {
@@ -88,6 +87,8 @@ where
     ensures book { IsBook history.new.items order.new.items result.passed result.front }
     ensures history { history.new.items ≡ history.old.items ++ store ∷ [] }
     ensures lengths { (vec_len history.new ≡ vec_len history.old + 1) × (vec_len order.new ≡ vec_len order.old + 1) }
+    ensures passed { reach.passed ≤ result.passed }
+    ensures kept { (n : ℕ) → n ≤ reach.passed → take n (by_index history.new.items order.new.items) ≡ take n (by_index history.old.items order.old.items) }
     ensures room { (vec_capacity history.old ≤ vec_capacity history.new) × (vec_capacity order.old ≤ vec_capacity order.new) }
 {
     let place = place_for(
@@ -99,34 +100,4 @@ where
     order.insert(place, history.len()).unwrap();
     history.push(store).unwrap();
     advanced(history.as_slice(), order.as_slice(), reach)
-}
-
-/// Copies of the first `most` items, in the order of their positions, of the first `passed` stores.
-pub fn copy_items<I: Copied>(
-    alloc: Global,
-    history: &[Stored<I>],
-    order: &[usize],
-    passed: usize,
-    most: usize,
-) -> Result<Vec<I>, Memory>
-    requires valid { AllByRecursion (λ i. i < length history.now) order.now }
-    requires passed { passed ≤ length order.now }
-    ensures { IfOk result (λ v. v.items ≡ take most (items_of (take passed (by_index history.now order.now)))) }
-{
-    let mut items = Vec::with_capacity(alloc, most)?;
-    'copies: for place in 0..passed {
-        let from = store_at(history, order, place).items.as_slice();
-        let count = from.len().min(most - items.len());
-        append_copies(alloc, &mut items, &from[..count])?;
-    }
-    Ok(items)
-}
-
-fn append_copies<I: Copied>(alloc: Global, into: &mut Vec<I>, from: &[I]) -> Result<(), Memory>
-    ensures { OnOk result (into.new.items ≡ into.old.items ++ from.now) }
-{
-    for item in from {
-        into.push(item.copy(alloc)?)?;
-    }
-    Ok(())
 }

@@ -2,13 +2,13 @@
 use Rattle.std.proofs.Common.{◌≡◌, ℕ, true, List, [], ◌∷◌, ◌++◌, Option, Result, Ok, refl, sym, ap, ◌∙◌, subst, ap₂, inl, inr}
 use Rattle.std.proofs.lemmas.Bool.{cases_eq, and_parts, and_from, ne_eqb, eq-eqb}
 use Rattle.mx_core.specs.declared.history.Stored.{Stored}
-use Rattle.mx_core.specs.History.{own, Law, keeps_law}
+use Rattle.mx_core.specs.History.{own, Law, IsLane, keeps_law}
 use Rattle.mx_core.proofs.Owns.{own-here, own-else}
 use Rattle.mx_core.specs.declared.placed.Prepared.{Prepared}
 use Rattle.mx_writers.specs.declared.folds.Made.{Made}
 use Rattle.mx_writers.specs.declared.folds.Made.TheVariants as made
 use Rattle.mx_writers.specs.declared.folds.Unmade.{Unmade}
-use Rattle.mx_writers.specs.Decision.{Decision, Stores, Keeps, Refuses, Prepares, Placing, IsLane, CanBeStored, AreLawful}
+use Rattle.mx_writers.specs.Decision.{Decision, Stores, Keeps, Refuses, Prepares, Placing, CanBeStored, AreLawful}
 
 module _ {I : Type 0} where
   own_twice : (h : List (Stored I)) (k : ℕ) → own (own h k) k ≡ own h k

@@ -1,7 +1,8 @@
 -- What a writer decides on a draft by its own stores, and what a block must be to follow these.
 use Rattle.std.specs.Prelude.{◌≡◌, ℕ, ◌+◌, ◌^◌, ◌<◌, ◌≤◌, true, List, [], ◌∷◌, ◌++◌, Option, Some, Result, Ok, Err, length}
 use Rattle.mx_core.specs.declared.history.Stored.{Stored}
-use Rattle.mx_core.specs.History.{own, is_stored, Law, keeps_law, placed_from}
+use Rattle.mx_core.specs.Limits.{most_drawn}
+use Rattle.mx_core.specs.History.{is_stored, Law, IsLane, placed_from}
 use Rattle.mx_writers.specs.declared.folds.Made.{Made}
 use Rattle.mx_writers.specs.declared.folds.Made.TheVariants as made
 use Rattle.mx_writers.specs.declared.folds.Unmade.{Unmade}
@@ -37,15 +38,10 @@ store_of place k first xs = record { writer = k; first = first; items = placed_f
 abbrev pub with_store : {I : Type 0} → Placing I → ℕ → List (Stored I) → ℕ → List I → List (Stored I)
 with_store place k mine first xs = mine ++ store_of place k first xs ∷ []
 
--- the stores are all of one writer, each lawful after those before it
-pub record IsLane {I : Type 0} (law : Law I) (k : ℕ) (mine : List (Stored I)) : Type 0 where
-  pub writer : own mine k ≡ mine
-  pub lawful : keeps_law law [] mine ≡ true
-
 -- decided items are 1 to 256, and a lawful store after the own stores wherever they may be placed
 pub record CanBeStored {I : Type 0} (law : Law I) (place : Placing I) (k : ℕ) (mine : List (Stored I)) (xs : List I) : Type 0 where
   pub some_items : 1 ≤ length xs
-  pub few : length xs ≤ 256
+  pub few : length xs ≤ most_drawn
   pub lawful : (first : ℕ) → MayFollow mine first xs → law k mine first (placed_from place first first xs) ≡ true
 
 abbrev pub AreLawful : {I D E : Type 0} → Law I → Placing I → (ℕ → List (Stored I) → D → Decision I E) → Type 0

@@ -7,8 +7,8 @@ use Rattle.mx_front.specs.declared.front.Stream.{Stream}
 use Rattle.mx_front.specs.declared.view.View.{View}
 use Rattle.mx_front.specs.Shown.{known, place_of_pen}
 use Rattle.mx_writers.specs.declared.folds.Folds.{Ghosts}
-use Rattle.mx_writers.specs.declared.lane.Shard.{Shard}
-use Rattle.mx_writers.specs.declared.seen.Writers.{Writers}
+use Rattle.mx_writers.specs.declared.shards.Shard.{Shard}
+use Rattle.mx_writers.specs.declared.shards.Writers.{Writers}
 
 module _ {F I D E : Type 0} {g : Ghosts F I D E} {h : placed.Ghosts I} where
   -- the number of its writer, and the stream that it stores to

@@ -1,5 +1,5 @@
 -- What a write answers and leaves.
-use Rattle.std.specs.Prelude.{◌≡◌, ℕ, ◌≤◌, List, [], ◌∷◌, ◌++◌, Result, Ok, Err, length}
+use Rattle.std.specs.Prelude.{◌≡◌, ℕ, ◌<◌, ◌≤◌, Bool, true, List, [], ◌∷◌, ◌++◌, Option, Some, None, Result, Ok, Err, length, nat_eq, if◌then◌else◌}
 use Rattle.mx_core.specs.declared.history.Stored.{Stored}
 use Rattle.mx_core.specs.Front.{IsFront}
 use Rattle.mx_core.specs.History.{own, Begins}
@@ -49,6 +49,17 @@ pub record WritesSeen {I D E : Type 0} (place : Placing I) (decides : ℕ → Li
   -- it has then seen all that it had seen, and all that the pen has, so a store and the list that its front is of
   pub seen : Begins old.seen new.seen
   pub told : Begins pen.seen new.seen
+  pub fewer : new.writers ≤ old.writers
   pub kept : old.read ≤ new.read
   pub read : pen.read ≤ new.read
   pub looks : new.looks ≡ old.looks
+
+-- what a gate is told by a write: the writer and the first position, exactly where the answer is a store
+abbrev pub told_by : {E : Type 0} → ℕ → Result Written (Refused E) → Option (ℕ × ℕ)
+told_by k (Ok w) = if nat_eq w.count 0 then None else Some (k, w.first)
+told_by k (Err e) = None
+
+-- a gate was told of the store that was made
+abbrev pub WasTold : {E : Type 0} → (ℕ → ℕ → Bool) → ℕ → Result Written (Refused E) → Type 0
+WasTold told k (Ok w) = 0 < w.count → told k w.first ≡ true
+WasTold told k (Err e) = Unit {0}

@@ -4,7 +4,7 @@
 //! shard, unless the seat whose ticket is served has it in hand.
 
 use crate::folds::Folds;
-use crate::lane::Shard;
+use crate::shards::Shard;
 use crate::view::Ask;
 use atomic_table::{Seat, Table, TableRule};
 use mx_front::Stream;

@@ -2,7 +2,8 @@
 
 ghost use Rattle.std.specs.Prelude.{◌≡◌, ℕ, List, Option, Some};
 ghost use Rattle.mx_core.specs.declared.history.Stored.{Stored};
-ghost use Rattle.mx_writers.specs.Decision.{Decision, Prepares, IsLane, MayFollow, AreLawful, with_store};
+ghost use Rattle.mx_core.specs.History.{IsLane};
+ghost use Rattle.mx_writers.specs.Decision.{Decision, Prepares, MayFollow, AreLawful, with_store};
 
 use mx_core::{Placed, Prepared};
 use mx_ids::{Copied, Memory};

@@ -5,23 +5,19 @@ mod answers;
 mod board;
 mod folds;
 mod gate;
-mod lane;
 mod number;
 mod plays;
-mod seen;
+mod shards;
 mod start;
-#[cfg(test)]
-mod tests;
-mod turned;
-mod turns;
+mod turn;
 mod view;
+mod write_seen;
 mod writing;
 
 pub use answers::{Refused, Written};
 pub use folds::{Folds, Made, Unmade};
-pub use gate::{Gate, Open};
-pub use lane::Shard;
+pub use gate::{Gate, Open, Watch};
 pub use number::{Number, Numbers, Zero};
-pub use seen::Writers;
+pub use shards::{Shard, Writers};
 pub use start::{numbers, shard, writers};
 pub use writing::write_in;

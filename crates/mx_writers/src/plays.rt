@@ -4,7 +4,7 @@ ghost use Rattle.mx_writers.specs.Shown.{IsShardOf};
 ghost use Rattle.mx_writers.specs.Tells.{entered, claimed, came, left};
 
 use crate::folds::Folds;
-use crate::lane::Shard;
+use crate::shards::Shard;
 use crate::view::Ask;
 use atomic_table::Play;
 

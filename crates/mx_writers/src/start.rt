@@ -7,9 +7,8 @@ ghost use Rattle.mx_writers.specs.Start.{AreFreshPens, AreFreshFolds, AreShards}
 
 use crate::board::Locks;
 use crate::folds::Folds;
-use crate::lane::Shard;
 use crate::number::Numbers;
-use crate::seen::Writers;
+use crate::shards::{Shard, Writers};
 use atomic_table::{Refused, Table};
 use mx_front::{Pen, Stream};
 use mx_ids::{Memory, Seq};

@@ -69,7 +69,7 @@ fn entries(rt: &impl Abort, alloc: Global) -> Result<Parts<Entry>, Memory>
     add(rt, alloc, &mut entries, at(rt, &last, 0), 3)?;
     add(rt, alloc, &mut entries, at(rt, &last, 1), 4)?;
     add(rt, alloc, &mut entries, at(rt, &last, 2), 5)?;
-    Ok(Parts::new(entries, 5))
+    Parts::of(alloc, entries.as_slice(), 5)
 }
 
 /// The number that is found for the user, room and type of a case, up to its position.

@@ -12,7 +12,7 @@ load-pass-requires g c = (search rules, search rules, learns_at _ _ _ _ _)
 pub invariant_of-pass : goal.invariant_of-pass
 invariant_of-pass g c =
     let h = has_met _ c.args.pass.now.seat.me _ _ c.args.other.seat.me c.args.pass.now.rests c.join_seat.ensures.2 c.load-pass.ensures.2 in
-    record { rests = h.rests; lawful = h.meets.lawful; orderly = h.meets.orderly; counted = c.max-pass.ensures ∙ (ap₂ max c.args.pass.now.counted c.args.other.counted ∙ (sym (longer_count c.args.pass.now.seat.me.0.seen c.args.other.seat.me.0.seen) ∙ sym (ap length h.meets.seen))) }
+    record { rests = h.rests; lawful = h.meets.lawful; orderly = h.meets.orderly; of_writers = h.meets.writers; counted = c.max-pass.ensures ∙ (ap₂ max c.args.pass.now.counted c.args.other.counted ∙ (sym (longer_count c.args.pass.now.seat.me.0.seen c.args.other.seat.me.0.seen) ∙ sym (ap length h.meets.seen))) }
 
 pub returns-clause-met : goal.returns-clause-met
 returns-clause-met g c = (has_met _ c.args.pass.now.seat.me _ _ c.args.other.seat.me c.args.pass.now.rests c.join_seat.ensures.2 c.load-pass.ensures.2).meets

@@ -32,5 +32,6 @@ invariant_of-pass g c =
       rests = search rules;
       lawful = n.lawful;
       orderly = n.orderly;
+      of_writers = n.writers;
       counted = c.max-pass.ensures ∙ (ap₂ max c.args.pass.now.counted c.args.pen.now.counted ∙ (sym (longer_count c.args.pass.now.seat.me.0.seen c.args.pen.now.seat.me.0.seen) ∙ sym (ap length seen)));
     }

@@ -5,11 +5,11 @@ use Rattle.mx_front.proofs.Seats.{lane_in, reserved, roomy}
 use Rattle.mx_front.proofs.front.Stream.reserve.Goals as goal
 
 pub more_room-made-requires-clause-book : goal.more_room-made-requires-clause-book
-more_room-made-requires-clause-book g c = lane_in _ _ _ _ c.enter-ticket.ensures.entered c.args.pen.now.writes
+more_room-made-requires-clause-book g c = lane_in _ _ _ _ c.enter-owed.ensures.entered c.args.pen.now.writes
 
 pub invariant_of-pen : goal.invariant_of-pen
 invariant_of-pen g c =
-    let r = reserved g.I.Placed.lawful _ _ _ _ _ _ c.enter-ticket.ensures.entered c.args.pen.now.writes c.more_room-made.ensures.grown c.leave.ensures.left in record {
+    let r = reserved g.I.Placed.lawful _ _ _ _ _ _ c.enter-owed.ensures.entered c.args.pen.now.writes c.more_room-made.ensures.grown c.leave.ensures.left in record {
       rests = r.rests;
       writes = r.writes;
       complete = ap (λ l. own l c.args.pen.now.writer) r.roomier.seen ∙ c.args.pen.now.complete ∙ sym r.roomier.own_is;
@@ -20,8 +20,8 @@ invariant_of-pen g c =
 
 pub returns-clause-room : goal.returns-clause-room
 returns-clause-room g c =
-    roomy _ _ _ _ _ _ _ c.enter-ticket.ensures.entered c.args.pen.now.writes c.more_room-made.ensures.grown c.leave.ensures.left _ c.more_room-made.ensures.room
+    roomy _ _ _ _ _ _ _ c.enter-owed.ensures.entered c.args.pen.now.writes c.more_room-made.ensures.grown c.leave.ensures.left _ c.more_room-made.ensures.room
 
 pub returns-clause-kept : goal.returns-clause-kept
 returns-clause-kept g c =
-    (reserved g.I.Placed.lawful _ _ _ _ _ _ c.enter-ticket.ensures.entered c.args.pen.now.writes c.more_room-made.ensures.grown c.leave.ensures.left).roomier
+    (reserved g.I.Placed.lawful _ _ _ _ _ _ c.enter-owed.ensures.entered c.args.pen.now.writes c.more_room-made.ensures.grown c.leave.ensures.left).roomier

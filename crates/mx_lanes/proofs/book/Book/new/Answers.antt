@@ -10,4 +10,5 @@ invariant_of-result g c =
       room_new _ c.args.writers _ _ lanes c.new.ensures.len,
       room_new _ c.args.writers _ _ lanes c.new-2.ensures.len,
       omega (arith, ap length lanes, length-replicate {A = ℕ} c.args.writers 0, c.ranges.writers),
+      record { within = omega arith; items = c.new-3.ensures },
     )

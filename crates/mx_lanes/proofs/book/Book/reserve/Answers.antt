@@ -2,7 +2,7 @@ use Rattle.std.proofs.Common.{◌≡◌, ◌<◌, ◌+◌, length, get_or, ap, �
 use Rattle.std.proofs.lemmas.List.{get_or_read, length-set}
 use Rattle.mx_lanes.specs.Held.{Held}
 use Rattle.mx_lanes.specs.Room.{total}
-use Rattle.mx_lanes.proofs.Books.{book_same, room_reserved}
+use Rattle.mx_lanes.proofs.Books.{book_same, shelved_same, room_reserved}
 use Rattle.mx_lanes.proofs.book.Book.reserve.Goals as goal
 
 pub invariant_of-self-2 : goal.invariant_of-self-2
@@ -14,4 +14,5 @@ invariant_of-self-2 g c =
       room_reserved c.self.inside.spares.items c.from-lane.result c.saturating_sub-more.result _ _ _ within (omega (arith, spare)) (omega (arith, sum, c.from.ensures, c.in_ok-reserve.ensures.ok)),
       room_reserved c.self.inside.spares.items c.from-lane.result c.saturating_sub-more.result _ _ _ within (omega (arith, spare)) (omega (arith, sum, c.from.ensures, c.in_ok-reserve-2.ensures.ok)),
       omega (arith, c.self.invariant.3, length-set c.self.inside.spares.items c.from-lane.result (c.index-spare.result.now + c.saturating_sub-more.result)),
+      shelved_same _ _ _ _ _ _ _ c.self.invariant.4 c.reserve.ensures.items c.reserve-2.ensures.items,
     )

@@ -1,5 +1,6 @@
-use Rattle.std.proofs.Common.{◌≡◌, ◌<◌, length, get_or, ap, ◌∙◌, arith}
+use Rattle.std.proofs.Common.{◌≡◌, ◌<◌, length, get_or, sym, ap, ◌∙◌, arith}
 use Rattle.std.proofs.lemmas.List.{get_or_read, length-set}
+use Rattle.mx_core.specs.History.{items_of}
 use Rattle.mx_lanes.specs.Held.{Held}
 use Rattle.mx_lanes.proofs.Books.{book_front, has_room, room_stored}
 use Rattle.mx_lanes.proofs.book.Book.store.Goals as goal
@@ -26,6 +27,7 @@ invariant_of-self g c =
       room_stored c.self.inside.spares.items c.from-holder.result c.left_of.result c.len.result _ _ _ _ within (c.left_of.ensures ∙ spare) some c.self.invariant.1 made.lengths.0 made.room.0,
       room_stored c.self.inside.spares.items c.from-holder.result c.left_of.result c.len.result _ _ _ _ within (c.left_of.ensures ∙ spare) some c.self.invariant.2 made.lengths.1 made.room.1,
       omega (arith, c.self.invariant.3, length-set c.self.inside.spares.items c.from-holder.result c.left_of.result),
+      record { within = omega (arith, c.self.invariant.4.within, made.passed); items = c.self.invariant.4.items ∙ ap items_of (sym (made.kept _ c.self.invariant.4.within)) },
     )
 
 pub returns-clause-front : goal.returns-clause-front

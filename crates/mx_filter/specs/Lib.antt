@@ -1,0 +1,4 @@
+pub mod Fields
+pub mod Judging
+pub mod Filters
+pub mod Passes

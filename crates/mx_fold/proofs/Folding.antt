@@ -1,0 +1,305 @@
+-- Each exchange keeps the agreement of a device's chain.
+use Rattle.std.proofs.Common.{◌≡◌, ℕ, ◌≤◌, Bool, true, false, cond, max, nat_eq, List, [], ◌∷◌, ◌++◌, Option, Some, None, IfSome, option_map, refl, sym, ap, ◌∙◌, subst, inl, inr, arith}
+use Rattle.std.specs.Prelude.{⊤, ◌&&◌, nat_le}
+use Rattle.std.specs.Option.{option_or}
+use Rattle.std.proofs.lemmas.Bool.{cases_Bool, eqb-true}
+use Rattle.mx_window.proofs.Lasts.{option_or-none}
+use Rattle.mx_ids.specs.declared.room_id.RoomId.{RoomId}
+use Rattle.mx_ids.specs.declared.sync_token.SyncToken.{SyncToken}
+use Rattle.mx_event.specs.Lawful.{same_room}
+use Rattle.mx_event.specs.Shown.{position_of}
+use Rattle.mx_event.specs.declared.event.Event.{Event}
+use Rattle.mx_folding.specs.Clients.{ClientRoom, with_page}
+use Rattle.mx_folding.specs.Parts.{Page, page_of}
+use Rattle.mx_folding.specs.Stories.{position, Story, Sync, told, standing, Holding, with_told, IsNext, IsBase}
+use Rattle.mx_folding.specs.Chains as chains
+use Rattle.mx_folding.specs.Chains.{new_client, Gap, around, Turn, Synced, Paged, with_paged, after_turn, after_turns, IsOpen, IsTurn, AreTurns}
+use Rattle.mx_view.specs.Rooms.{Key, room_of}
+use Rattle.mx_view.specs.Valid.{Rooms}
+use Rattle.mx_view.specs.Tokens.{tokens, is_before, same_token, next_token}
+use Rattle.mx_event.proofs.Lawfully.{same_is as same_room_is, rooms_are_valid}
+use Rattle.mx_view.proofs.Orders.{before_parts, before_from, before_trans, before_self, are_tokens, same_is}
+use Rattle.mx_view.proofs.Stories.{valid_folds}
+use Rattle.mx_core.proofs.Covering.{front_rises}
+use Rattle.mx_fold.specs.Lists.{Lists, Histories, Counts, AreFewer, AreLawful, no_lists, no_stores, upto, fronts_of, counts_of, lists_of, lists_at, events_in}
+use Rattle.mx_fold.specs.Servers.{Server, IsServer, RestsFold, rest_of, story}
+use Rattle.mx_fold.specs.Accounts.{content_at, account_at, account_sent}
+use Rattle.mx_fold.specs.Replies.{SyncAsk, PageAsk, Ask, Syncs, Pages, Else, Replied, Showed, PassedOver, Reply, to_at, is_behind, heroes_in, reply_of, page_asked, sees_room, answer_to}
+use Rattle.mx_fold.specs.Clients.{Client, nothing_held, after_reply, with_reply, page_into, after_page, gap_of, with_gap, with_shown, with_said, chain, Agrees}
+use Rattle.mx_fold.specs.Exchanges.{Mark, exchange_at, exchanges, MarksRise, ConnectionsAgree}
+use Rattle.mx_fold.proofs.Readers.{same_told_read, page_read}
+use Rattle.mx_fold.proofs.Marked.{mark_upto, events_stand, accounts_stand, told_at_mark, page_at_mark}
+use Rattle.mx_fold.proofs.Accounts.{account_new, account_more, account_at_mark}
+use Rattle.mx_fold.proofs.Picturing.{holds_picture}
+use Rattle.mx_fold.proofs.Turns.{turns_more, are_more, Found, found_in, rises_in, gap_within}
+
+upto_next : {R : Type 0} (lists : Lists R) (since : Option SyncToken) (fronts : SyncToken) → upto (next_token since fronts) lists ≡ upto fronts lists
+upto_next lists None fronts = refl
+upto_next lists (Some s) fronts = refl
+
+next_before : (since : Option SyncToken) (fronts : SyncToken) → is_before (next_token since fronts) fronts ≡ true
+next_before None fronts = before_self (next_token None fronts) fronts refl refl refl refl
+next_before (Some s) fronts = before_self (next_token (Some s) fronts) fronts refl refl refl refl
+
+next_behind : (since : Option SyncToken) (fronts : SyncToken) → is_behind since fronts ≡ true → IsNext tokens since (next_token since fronts)
+next_behind None fronts h = tt
+next_behind (Some t) fronts h = h
+
+module _ {R V D F P : Type 0} (w : Server R V D F P) (server : IsServer w) (h : Histories R) (lawful : AreLawful h) (rests : RestsFold w (lists_of h)) (user : List ℕ) (f : F) (folds : w.folds f ≡ true) where
+  abbrev final : Lists R
+  final = lists_of h
+
+  abbrev stories : RoomId → Story Event Key V D SyncToken
+  stories room = story w final user f room
+
+  abbrev rooms : Rooms RoomId V D SyncToken
+  rooms = record { sieve = w.sieve f; picked = w.picks f; events = events_in final; rest = rest_of w final user f }
+
+  abbrev nobody : chains.Client RoomId Event Key V SyncToken
+  nobody = new_client RoomId Event Key V SyncToken
+
+  -- the client as the folding law has it
+  abbrev folded : Client V → chains.Client RoomId Event Key V SyncToken
+  folded c = record { token = Some c.token; base = c.token.b; front = c.front; rooms = λ room. c.rooms room }
+
+  -- the client comes from turns, and its token lies at or before these fronts
+  record Kept (fronts : SyncToken) (c : Client V) : Type 0 where
+    pub turns : List (Turn RoomId Event Key SyncToken)
+    pub taken : AreTurns tokens stories nobody turns
+    pub comes : folded c ≡ after_turns tokens stories nobody turns
+    pub based : c.token.b ≤ c.token.e
+    pub reached : is_before c.token fronts ≡ true
+    pub account : (kind : List ℕ) → c.account kind ≡ account_at w final.accounts user f c.token.a kind
+
+  abbrev KeptIf : SyncToken → Option (Client V) → Type 0
+  KeptIf fronts None = ⊤
+  KeptIf fronts (Some c) = Kept fronts c
+
+  -- what comes from turns agrees
+  rooms_agree : (fronts : SyncToken) (c : Client V) → Kept fronts c → chains.Agrees tokens stories (folded c)
+  rooms_agree fronts c kept =
+      subst (chains.Agrees tokens stories) (sym kept.comes)
+      (valid_folds tokens are_tokens user rooms (record { by_type = server.by_type f folds; valid = (rooms_are_valid h.events lawful.orderly lawful.events).1; rest = rests user f })
+      kept.turns kept.taken)
+
+  agrees_from : (fronts : SyncToken) (client : Option (Client V)) → KeptIf fronts client → IfSome client (Agrees w user f final)
+  agrees_from fronts None kept = tt
+  agrees_from fronts (Some c) kept = record {
+    rooms = λ room. holds_picture w final user f c.token c.front room (c.rooms room) (server.by_type f folds room) ((rooms_are_valid h.events lawful.orderly lawful.events).1 room).ascends (rooms_agree fronts c kept room);
+    account = kept.account;
+  }
+
+  -- an exchange that is passed over
+  passed : (low fronts : SyncToken) (client : Option (Client V)) → is_before low fronts ≡ true → KeptIf low client → KeptIf fronts client
+  passed low fronts None up kept = tt
+  passed low fronts (Some c) up kept =
+      record { turns = kept.turns; taken = kept.taken; comes = kept.comes; based = kept.based; reached = before_trans c.token low fronts kept.reached up; account = kept.account }
+
+  module _ (here : Lists R) (mark : here ≡ upto (fronts_of here) final) (low : SyncToken) (up : is_before low (fronts_of here) ≡ true) where
+    abbrev fronts : SyncToken
+    fronts = fronts_of here
+
+    -- ---- a reply
+
+    module _ (since : Option SyncToken) (sync : Sync) (behind : is_behind since (fronts_of here) ≡ true) where
+      abbrev ask : SyncAsk F
+      ask = record { filter = f; since = since; sync = sync }
+
+      abbrev next : SyncToken
+      next = next_token since fronts
+
+      abbrev heroes : RoomId → Key → Bool
+      heroes room k = heroes_in w here user ask room k
+
+      abbrev reply : Reply V D
+      reply = reply_of w here user ask
+
+      told_is : IsBase tokens next.b since next → (room : RoomId) → reply.rooms room ≡ told tokens (stories room) sync (heroes room) next.b since next
+      told_is base room =
+          ap (λ l. told tokens (story w l user f room) sync (heroes room) next.b since next) (mark ∙ sym (upto_next final since fronts))
+          ∙ told_at_mark w server final (events_stand h lawful) user f room sync (heroes room) next.b since next (next_behind since fronts behind) base
+
+      taken_in : IsBase tokens next.b since next → (rooms : RoomId → Holding Event Key V) (room : RoomId)
+          → with_told (story w no_lists user f room) sync.after (position tokens since) next.e (reply.rooms room) (rooms room)
+          ≡ with_told (stories room) sync.after (position tokens since) next.e (told tokens (stories room) sync (heroes room) next.b since next) (rooms room)
+      taken_in base rooms room =
+          same_told_read w user f room no_lists final sync.after (position tokens since) next.e (reply.rooms room) (rooms room)
+          ∙ ap (λ t. with_told (stories room) sync.after (position tokens since) next.e t (rooms room)) (told_is base room)
+
+      account_is : reply.account ≡ account_sent w final.accounts user f since fronts.a
+      account_is = ap (λ (l : Lists R). account_sent w l.accounts user f since fronts.a) mark ∙ account_at_mark w final.accounts (accounts_stand h lawful) user f since fronts.a
+
+    begins : (sync : Sync) → Kept fronts (after_reply w user f None 0 (nothing_held V) (λ kind. None) sync.after (reply None sync refl))
+    begins sync = record {
+      turns = Synced sync (heroes None sync refl) (next None sync refl) ∷ [];
+      taken = (tt, tt);
+      comes =
+          let rooms = taken_in None sync refl refl (nothing_held V) in
+          λ i. record { token = Some (next None sync refl); base = fronts.e; front = max 0 fronts.e; rooms = λ room. rooms room i };
+      based = omega arith;
+      reached = next_before None fronts;
+      account = λ kind. option_or-none (content_at kind (reply None sync refl).account) ∙ ap (content_at kind) (account_is None sync refl) ∙ account_new w user f kind final.accounts fronts.a;
+    }
+
+    goes_on : (sync : Sync) (c : Client V) (behind : is_behind (Some c.token) fronts ≡ true) → Kept low c
+        → Kept fronts (after_reply w user f (Some c.token) c.front c.rooms c.account sync.after (reply (Some c.token) sync behind))
+    goes_on sync c behind kept =
+        let since : Option SyncToken = Some c.token in
+        let ends : SyncToken = next (Some c.token) sync behind in
+        let parts = before_parts c.token fronts (before_trans c.token low fronts kept.reached up) in
+        let rises : c.token.e ≤ fronts.e = parts.0 in
+        let reaches : c.token.a ≤ fronts.a = parts.2 in
+        let rooms = taken_in since sync behind kept.based c.rooms in
+        let turn : Turn RoomId Event Key SyncToken = Synced sync (heroes since sync behind) ends in
+        let after : folded (after_reply w user f since c.front c.rooms c.account sync.after (reply since sync behind)) ≡ after_turn tokens stories (folded c) turn =
+        λ i. record { token = Some ends; base = c.token.b; front = max c.front fronts.e; rooms = λ room. rooms room i } in
+        record {
+          turns = kept.turns ++ turn ∷ [];
+          taken = are_more tokens stories nobody kept.turns turn kept.taken (subst (λ d. IsTurn tokens d turn) kept.comes behind);
+          comes = after ∙ ap (λ d. after_turn tokens stories d turn) kept.comes ∙ sym (turns_more tokens stories nobody kept.turns turn);
+          based = let low' : c.token.b ≤ c.token.e = kept.based in omega (arith, low', rises);
+          reached = next_before since fronts;
+          account = λ kind.
+              ap (λ ps. option_or (content_at kind ps) (c.account kind)) (account_is since sync behind)
+              ∙ account_more w user f kind final.accounts (accounts_stand h lawful) c.token fronts.a (c.account kind) reaches (kept.account kind);
+        }
+
+    replied : (sync : Sync) (client : Option (Client V)) (since : Option SyncToken) (behind : is_behind since fronts ≡ true) → KeptIf low client
+        → KeptIf fronts (with_reply w user f client since sync.after (reply since sync behind))
+    replied sync None None behind kept = begins sync
+    replied sync (Some c) None behind kept = begins sync
+    replied sync None (Some since) behind kept = tt
+    replied sync (Some c) (Some since) behind kept =
+        elim (cases_Bool (same_token c.token since)) [
+          | inl same ↦ rw same (
+              subst (λ s. (b : is_behind (Some s) fronts ≡ true) → Kept fronts (after_reply w user f (Some s) c.front c.rooms c.account sync.after (reply (Some s) sync b))) (same_is c.token since same)
+              (λ b. goes_on sync c b kept) behind)
+          | inr other ↦ rw other (passed low fronts (Some c) up kept)
+        ]
+
+    -- ---- a page
+
+    abbrev gaps : RoomId → Gap Event → RoomId → Option (Gap Event)
+    gaps room gap other = cond (same_room other room) (Some gap) None
+
+    opens : (room : RoomId) (gap : Gap Event) (c : Client V) → IsOpen (Some gap) (c.rooms room) → (x : RoomId) (b : Bool) → same_room x room ≡ b → IsOpen (cond b (Some gap) None) (c.rooms x)
+    opens room gap c is x false e = tt
+    opens room gap c is x true e = subst (λ y. IsOpen (Some gap) (c.rooms y)) (sym (same_room_is x room e)) is
+
+    page_same : (room : RoomId) (gap : Gap Event) (page : Page Event) (limit e : ℕ) → page ≡ page_of (stories room).room (stories room).events limit gap.front e gap.lower gap.upper
+        → (had : Holding Event Key V) (x : RoomId) (b : Bool) → same_room x room ≡ b → cond b (page_into w user f x gap page had) had ≡ with_paged (stories x) limit e (cond b (Some gap) None) had
+    page_same room gap page limit e is had x false same = refl
+    page_same room gap page limit e is had x true same =
+        let there : page ≡ page_of (stories x).room (stories x).events limit gap.front e gap.lower gap.upper =
+        subst (λ y. page ≡ page_of (stories y).room (stories y).events limit gap.front e gap.lower gap.upper) (sym (same_room_is x room same)) is in
+        let read = λ (p : ClientRoom Event Key × V). page_read w user f x no_lists final gap.lower gap.front gap.before gap.behind page p.0.state
+        ∙ ap (λ pg. with_page (stories x).room gap.lower gap.front gap.before gap.behind pg p.0.state) there in
+        λ i. record { joined = option_map (λ (p : ClientRoom Event Key × V). (read p i, p.1)) had.joined; invited = had.invited }
+
+    pages : (asks : PageAsk P) (c : Client V) → w.fits f asks.filter ≡ true → Kept low c → (o : Option (Gap Event)) → gap_of w user f asks (c.rooms asks.room) ≡ o
+        → Kept fronts (with_gap w user f fronts.e asks.room c (page_asked w here user asks) o)
+    pages asks c fits kept None none = passed low fronts (Some c) up kept
+    pages asks c fits kept (Some gap) some =
+        let room = asks.room in
+        let page = page_asked w here user asks in
+        let found = found_in (to_at asks.to) asks.from_at asks.from_cut (c.rooms room).joined gap some in
+        let p : ClientRoom Event Key × V = found.0 in
+        let joined : (c.rooms room).joined ≡ Some p = found.1 in
+        let at : Found (to_at asks.to) asks.from_at asks.from_cut p.0.timeline gap = found.2 in
+        let agrees = rooms_agree low c kept in
+        let rises = rises_in tokens (stories room) c.token.b c.token c.front (standing (stories room) c.token.e) (c.rooms room) p joined (agrees room) in
+        let within = gap_within position_of c.token.e (to_at asks.to) asks.from_at asks.from_cut p.0.timeline gap at rises in
+        let reached = before_trans c.token low fronts kept.reached up in
+        let past : c.token.e ≤ fronts.e = (before_parts c.token fronts reached).0 in
+        let cut_in : asks.from_cut ≤ c.token.e = within.0 in
+        let order : to_at asks.to ≤ asks.from_at = within.1 in
+        let upper_in : asks.from_at ≤ c.token.e = within.2 in
+        let at_end : page ≡ page_of (stories room).room (stories room).events asks.limit asks.from_cut fronts.e (to_at asks.to) asks.from_at =
+        ap (λ l. page_of (room_of (w.page_sieve asks.filter room) user (events_in l room)) (events_in l room) asks.limit asks.from_cut fronts.e (to_at asks.to) asks.from_at) mark
+        ∙ page_at_mark w server final (events_stand h lawful) user f asks.filter room fronts asks.limit asks.from_cut (to_at asks.to) asks.from_at fits (omega arith) order (omega arith) in
+        let lower_is = at.1 in
+        let upper_is = at.2 in
+        let cut_is = at.3 in
+        let gap_page : page ≡ page_of (stories room).room (stories room).events asks.limit gap.front fronts.e gap.lower gap.upper =
+        at_end ∙ sym (λ i. page_of (stories room).room (stories room).events asks.limit (cut_is i) fronts.e (lower_is i) (upper_is i)) in
+        let turn : Turn RoomId Event Key SyncToken = Paged asks.limit fronts.e (gaps room gap) in
+        let is_turn : IsTurn tokens (folded c) turn = (past, λ x. opens room gap c (p.0, p.1, joined, at.0) x (same_room x room) refl) in
+        let rooms = λ (x : RoomId). page_same room gap page asks.limit fronts.e gap_page (c.rooms x) x (same_room x room) refl in
+        let after : folded (after_page w user f fronts.e room c gap page) ≡ after_turn tokens stories (folded c) turn =
+        λ i. record { token = Some c.token; base = c.token.b; front = max c.front fronts.e; rooms = λ x. rooms x i } in
+        record {
+          turns = kept.turns ++ turn ∷ [];
+          taken = are_more tokens stories nobody kept.turns turn kept.taken (subst (λ d. IsTurn tokens d turn) kept.comes is_turn);
+          comes = after ∙ ap (λ d. after_turn tokens stories d turn) kept.comes ∙ sym (turns_more tokens stories nobody kept.turns turn);
+          based = kept.based;
+          reached = reached;
+          account = kept.account;
+        }
+
+    shown : (asks : PageAsk P) (client : Option (Client V)) → w.fits f asks.filter ≡ true → KeptIf low client → KeptIf fronts (with_shown w user f fronts.e asks (page_asked w here user asks) client)
+    shown asks None fits kept = tt
+    shown asks (Some c) fits kept = pages asks c fits kept (gap_of w user f asks (c.rooms asks.room)) refl
+
+    -- ---- an answer to the device
+
+    syncs : (asks : SyncAsk F) (client : Option (Client V)) → KeptIf low client → (b : Bool) → is_behind asks.since fronts ≡ b
+        → KeptIf fronts (with_said w user f fronts.e (cond b (Replied asks (reply_of w here user asks)) PassedOver) client)
+    syncs asks client kept false ahead = passed low fronts client up kept
+    syncs asks client kept true behind =
+        elim (cases_Bool (w.same_filter asks.filter f)) [
+          | inl same ↦ rw same (
+              subst (λ g. KeptIf fronts (with_reply w user f client asks.since asks.sync.after (reply_of w here user (record { filter = g; since = asks.since; sync = asks.sync })))) (sym (server.filters asks.filter f same))
+              (replied asks.sync client asks.since behind kept))
+          | inr other ↦ rw other (passed low fronts client up kept)
+        ]
+
+    paged : (asks : PageAsk P) (client : Option (Client V)) → KeptIf low client → (b : Bool)
+        → KeptIf fronts (with_said w user f fronts.e (cond b (Showed asks (page_asked w here user asks)) PassedOver) client)
+    paged asks client kept false = passed low fronts client up kept
+    paged asks client kept true =
+        elim (cases_Bool (w.fits f asks.filter)) [
+          | inl fits ↦ rw fits (shown asks client fits kept)
+          | inr other ↦ rw other (passed low fronts client up kept)
+        ]
+
+    answered : (asks : Ask F P) (memory : Bool) (client : Option (Client V)) → KeptIf low client → KeptIf fronts (with_said w user f fronts.e (cond memory PassedOver (answer_to w here user asks)) client)
+    answered asks true client kept = passed low fronts client up kept
+    answered (Syncs asks) false client kept = syncs asks client kept (is_behind asks.since fronts) refl
+    answered (Pages asks) false client kept = paged asks client kept (sees_room w here user asks.room && (nat_le asks.from_cut fronts.e && is_behind asks.to fronts))
+    answered Else false client kept = passed low fronts client up kept
+
+-- ---- the exchanges
+
+rise_to : {R : Type 0} (h : Histories R) (n m : Counts) → AreFewer n m → is_before (fronts_of (lists_at n h)) (fronts_of (lists_at m h)) ≡ true
+rise_to h n m few =
+    before_from (fronts_of (lists_at n h)) (fronts_of (lists_at m h)) (front_rises n.events m.events h.events few.events) (front_rises n.receipts m.receipts h.receipts few.receipts)
+    (front_rises n.accounts m.accounts h.accounts few.accounts) (omega arith)
+
+module _ {R V D F P : Type 0} (w : Server R V D F P) (server : IsServer w) (h : Histories R) (lawful : AreLawful h) (rests : RestsFold w (lists_of h)) (device : ℕ) (f : F) (folds : w.folds f ≡ true) where
+  abbrev fronts_at : Counts → SyncToken
+  fronts_at n = fronts_of (lists_at n h)
+
+  abbrev IsKept : SyncToken → Option (Client V) → Type 0
+  IsKept fronts client = KeptIf w server h lawful rests (w.user_of device) f folds fronts client
+
+  one_more : (low : Counts) (a : ℕ × Ask F P) (mark : Mark) (client : Option (Client V)) → AreFewer low mark.stores → IsKept (fronts_at low) client
+      → IsKept (fronts_at mark.stores) (cond (nat_eq a.0 device) (with_said w (w.user_of device) f (fronts_at mark.stores).e (exchange_at w h a mark).said client) client)
+  one_more low a mark client few kept =
+      let here : Lists R = lists_at mark.stores h in
+      let up = rise_to h low mark.stores few in
+      elim (cases_Bool (nat_eq a.0 device)) [
+        | inl mine ↦ rw mine (
+            subst (λ d. IsKept (fronts_at mark.stores) (with_said w (w.user_of device) f (fronts_of here).e (cond mark.memory PassedOver (answer_to w here (w.user_of d) a.1)) client)) (sym (eqb-true a.0 device mine))
+            (answered w server h lawful rests (w.user_of device) f folds here (mark_upto h mark.stores) (fronts_at low) up a.1 mark.memory client kept))
+        | inr other ↦ rw other (passed w server h lawful rests (w.user_of device) f folds (fronts_at low) (fronts_at mark.stores) client up kept)
+      ]
+
+  all_agree : (low : Counts) (client : Option (Client V)) (asked : List (ℕ × Ask F P)) (marks : List Mark) → MarksRise low marks (counts_of h) → IsKept (fronts_at low) client
+      → IfSome (chain w device f client (exchanges w h asked marks)) (Agrees w (w.user_of device) f (lists_of h))
+  all_agree low client [] marks rise kept = agrees_from w server h lawful rests (w.user_of device) f folds (fronts_at low) client kept
+  all_agree low client (a ∷ asked) [] rise kept = agrees_from w server h lawful rests (w.user_of device) f folds (fronts_at low) client kept
+  all_agree low client (a ∷ asked) (mark ∷ marks) rise kept =
+      all_agree mark.stores (cond (nat_eq a.0 device) (with_said w (w.user_of device) f (fronts_at mark.stores).e (exchange_at w h a mark).said client) client) asked marks rise.1 (one_more low a mark client rise.0 kept)
+
+pub connections_agree : {R V D F P : Type 0} → ConnectionsAgree R V D F P
+connections_agree w server h lawful rests asked marks rise device f folds = all_agree w server h lawful rests device f folds no_stores None asked marks rise tt

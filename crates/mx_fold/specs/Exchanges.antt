@@ -1,0 +1,50 @@
+-- The exchanges of a connection, from what was asked and the marks alone; and the headline's clause on them.
+use Rattle.std.specs.Prelude.{◌≡◌, ℕ, Bool, true, cond, List, [], ◌∷◌, None, IfSome}
+use Rattle.std.specs.List.{AllByRecursion}
+use Rattle.mx_fold.specs.Lists.{Lists, Histories, Counts, AreFewer, AreLawful, no_stores, counts_of, lists_of, lists_at}
+use Rattle.mx_fold.specs.Servers.{Server, IsServer, RestsFold}
+use Rattle.mx_fold.specs.Replies.{Ask, PassedOver, answer_to}
+use Rattle.mx_fold.specs.Clients.{Exchange, chain, Agrees}
+use Rattle.mx_fold.specs.Sent.{SeesSaid}
+
+-- how many stores of each stream the lists at an answer have; and whether the answer is the 503
+pub record Mark : Type 0 where
+  pub stores : Counts
+  pub memory : Bool
+
+abbrev pub exchange_at : {R V D F P : Type 0} → Server R V D F P → Histories R → ℕ × Ask F P → Mark → Exchange R V D F P
+exchange_at w h asked mark = record {
+  device = asked.0;
+  lists = lists_at mark.stores h;
+  said = cond mark.memory PassedOver (answer_to w (lists_at mark.stores h) (w.user_of asked.0) asked.1);
+}
+
+-- one exchange for each mark
+abbrev pub exchanges : {R V D F P : Type 0} → Server R V D F P → Histories R → List (ℕ × Ask F P) → List Mark → List (Exchange R V D F P)
+exchanges w h [] marks = []
+exchanges w h (a ∷ asked) [] = []
+exchanges w h (a ∷ asked) (mark ∷ marks) = exchange_at w h a mark ∷ exchanges w h asked marks
+
+-- each mark's lists begin the next one's, and the last one's what is seen in the end
+abbrev pub MarksRise : Counts → List Mark → Counts → Type 0
+MarksRise low [] high = AreFewer low high
+MarksRise low (mark ∷ marks) high = AreFewer low mark.stores × MarksRise mark.stores marks high
+
+-- each device's chain with each filter that picks state by type and room agrees with the picture at its token
+abbrev pub ChainsAgree : {R V D F P : Type 0} → Server R V D F P → Lists R → List (Exchange R V D F P) → Type 0
+ChainsAgree {F = F} w lists xs = (device : ℕ) (f : F) → w.folds f ≡ true → IfSome (chain w device f None xs) (Agrees w (w.user_of device) f lists)
+
+-- each event that a timeline or a page sent is visible to its user at the front of the lists at the mark
+abbrev pub AreSent : {R V D F P : Type 0} → Server R V D F P → List (Exchange R V D F P) → Type 0
+AreSent {R} {V} {D} {F} {P} w xs = AllByRecursion (λ (x : Exchange R V D F P). SeesSaid w x.lists (w.user_of x.device) x.said) xs
+
+-- Whatever a connection was asked, and on whatever beginnings of the stores that its pass has seen in the end: the chain of
+-- each device and filter agrees with the picture at its token.
+abbrev pub ConnectionsAgree : Type 0 → Type 0 → Type 0 → Type 0 → Type 0 → Type 0
+ConnectionsAgree R V D F P = (w : Server R V D F P) → IsServer w → (h : Histories R) → AreLawful h → RestsFold w (lists_of h)
+    → (asked : List (ℕ × Ask F P)) (marks : List Mark)
+    → MarksRise no_stores marks (counts_of h) → ChainsAgree w (lists_of h) (exchanges w h asked marks)
+
+-- And what its answers send in timelines and pages is visible.
+abbrev pub ConnectionsSee : Type 0 → Type 0 → Type 0 → Type 0 → Type 0 → Type 0
+ConnectionsSee R V D F P = (w : Server R V D F P) (h : Histories R) (asked : List (ℕ × Ask F P)) (marks : List Mark) → AreSent w (exchanges w h asked marks)

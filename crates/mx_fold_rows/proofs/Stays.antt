@@ -1,0 +1,38 @@
+use Rattle.std.proofs.Common.{refl}
+use Rattle.mx_fold_rows.specs.Stays.{BreakAtHidden, PageOfStay, StateAfter, NoBreakAtDropped, HasLeft, CameBack, IsInvited, LeftSinceToken, LeftLimited, LeftBeforeToken, FirstBase, KeptBase}
+
+pub break_at_hidden : BreakAtHidden
+break_at_hidden = refl
+
+pub page_of_stay : PageOfStay
+page_of_stay = refl
+
+pub state_after : StateAfter
+state_after = refl
+
+pub no_break_at_dropped : NoBreakAtDropped
+no_break_at_dropped = refl
+
+pub has_left : HasLeft
+has_left = refl
+
+pub came_back : CameBack
+came_back = refl
+
+pub is_invited : IsInvited
+is_invited = refl
+
+pub left_since_token : LeftSinceToken
+left_since_token = refl
+
+pub left_limited : LeftLimited
+left_limited = refl
+
+pub left_before_token : LeftBeforeToken
+left_before_token = refl
+
+pub first_base : FirstBase
+first_base = refl
+
+pub kept_base : KeptBase
+kept_base = refl

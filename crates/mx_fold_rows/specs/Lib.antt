@@ -1,0 +1,9 @@
+pub mod Events
+pub mod Said
+pub mod Heard
+pub mod Limits
+pub mod Stays
+pub mod Visible
+pub mod Redacted
+pub mod Lazy
+pub mod Chains

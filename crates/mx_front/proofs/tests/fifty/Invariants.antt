@@ -1,6 +1,0 @@
-use Rattle.std.proofs.Common.{◌≡◌, None}
-use Rattle.mx_front.specs.Shown.{place_of, place_of_pen, known}
-use Rattle.mx_front.proofs.tests.fifty.Given as goal
-
-abbrev pub invariant-writes : goal.invariant-writes
-invariant-writes g l = (place_of_pen l.pen ≡ place_of l.stream) × ((known l.pen).block ≡ None)

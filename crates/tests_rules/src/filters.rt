@@ -1,0 +1,155 @@
+//! Filters as they are read, and what passes.
+use crate::make::{at, bool_in, json, list, str_in, text_in, user_in};
+use mx_event::Event;
+use mx_filter::{DataPart, Filter, FilterFault, Part, everything, read, read_part};
+use mx_ids::{EventId, RoomId};
+use mx_json::Json;
+use std::alloc::Global;
+use std::process::Abort;
+
+const ROOM: RoomId = RoomId { writer: 0, at: 1 };
+
+/// The path of the field for which a filter is refused, `format` for its format, or nothing.
+fn refusal_is(fault: Option<FilterFault>, path: &str) -> bool {
+    match fault {
+        Some(FilterFault::Shape(found)) => found.as_str() == path,
+        Some(FilterFault::Format) => path == "format",
+        Some(FilterFault::Memory) => false,
+        None => path == "",
+    }
+}
+
+#[test]
+fn the_first_wrong_field_in_the_order_of_paths_is_named(rt: HostRuntime) {
+    let rows = json(
+        &rt,
+        rt.alloc(),
+        r#"[
+        [{}, ""],
+        [[], "body"],
+        [{"room":{},"unknown":1,"event_format":"client","event_fields":["a"]}, ""],
+        [{"event_format":"federation"}, "format"],
+        [{"event_format":"other"}, "event_format"],
+        [{"event_format":"federation","room":1}, "room"],
+        [{"event_fields":[1],"room":1,"account_data":[]}, "account_data"],
+        [{"event_fields":[1],"room":1,"account_data":{"types":"a"}}, "account_data.types"],
+        [{"event_fields":[1],"room":1,"account_data":{"rooms":"a"}}, "event_fields"],
+        [{"room":{"timeline":{"limit":-1,"lazy_load_members":1}}}, "room.timeline.lazy_load_members"],
+        [{"room":{"timeline":{"limit":-1}}}, "room.timeline.limit"],
+        [{"room":{"timeline":{"limit":0},"state":{"senders":["a",1]},"rooms":1}}, "room.rooms"],
+        [{"room":{"state":{"senders":["a",1]}}}, "room.state.senders"],
+        [{"room":{"ephemeral":{"not_types":{}},"include_leave":"true"}}, "room.ephemeral.not_types"],
+        [{"room":{"include_leave":"true","not_rooms":1}}, "room.include_leave"]
+    ]"#,
+    );
+    for row in list(&rt, &rows) {
+        let fault = read(rt.alloc(), at(&rt, row, 0)).err();
+        assert!(&rt; refusal_is(fault, str_in(&rt, row, 1)));
+    }
+}
+
+#[test]
+fn the_filter_of_a_page_is_one_of_events(rt: HostRuntime) {
+    let rows = json(
+        &rt,
+        rt.alloc(),
+        r#"[
+        [{}, ""],
+        [1, "body"],
+        [{"room":1,"event_format":"federation"}, ""],
+        [{"types":"a","contains_url":1}, "contains_url"],
+        [{"types":"a"}, "types"]
+    ]"#,
+    );
+    for row in list(&rt, &rows) {
+        let fault = read_part(rt.alloc(), at(&rt, row, 0)).err();
+        assert!(&rt; refusal_is(fault, str_in(&rt, row, 1)));
+    }
+}
+
+/// An event of a type and sender, with or without a key `url` in its content.
+fn event(rt: &impl Abort, alloc: Global, row: &Json) -> Event {
+    Event {
+        id: EventId { at: 7 },
+        room: RoomId { writer: 1, at: 2 },
+        kind: text_in(rt, alloc, row, 2),
+        state_key: None,
+        sender: user_in(rt, alloc, row, 3),
+        content: Json::Null,
+        ts: 1000,
+        txn: None,
+        has_url: bool_in(rt, row, 4),
+    }
+}
+
+fn passes(rt: &impl Abort, alloc: Global, row: &Json) -> bool {
+    let filter = read(alloc, at(rt, row, 0)).expect(rt, "a filter");
+    let part = match str_in(rt, row, 1) {
+        "state" => Part::State,
+        _ => Part::Timeline,
+    };
+    filter.passes(part, &ROOM, &event(rt, alloc, row), "example.org")
+}
+
+#[test]
+fn an_event_passes_by_each_list(rt: HostRuntime) {
+    let rows = json(
+        &rt,
+        rt.alloc(),
+        r#"[
+        [{}, "state", "m.room.name", "@a:example.org", false, true],
+        [{"room":{"state":{"types":[]}}}, "state", "m.room.name", "@a:example.org", false, false],
+        [{"room":{"state":{"types":[]}}}, "timeline", "m.room.name", "@a:example.org", false, true],
+        [{"room":{"timeline":{"types":["m.room.*"]}}}, "timeline", "m.room.name", "@a:example.org", false, true],
+        [{"room":{"timeline":{"types":["m.room.*"]}}}, "timeline", "org.a", "@a:example.org", false, false],
+        [{"room":{"timeline":{"types":["m.room.*"],"not_types":["*name"]}}}, "timeline", "m.room.name", "@a:example.org", false, false],
+        [{"room":{"timeline":{"senders":["@b:example.org"]}}}, "timeline", "m.room.name", "@a:example.org", false, false],
+        [{"room":{"timeline":{"senders":[]}}}, "timeline", "m.room.name", "@a:example.org", false, false],
+        [{"room":{"timeline":{"not_senders":["@a:example.org"]}}}, "timeline", "m.room.name", "@a:example.org", false, false],
+        [{"room":{"timeline":{"contains_url":true}}}, "timeline", "m.room.name", "@a:example.org", false, false],
+        [{"room":{"timeline":{"contains_url":false}}}, "timeline", "m.room.name", "@a:example.org", true, false],
+        [{"room":{"timeline":{"contains_url":true}}}, "timeline", "m.room.name", "@a:example.org", true, true],
+        [{"room":{"timeline":{"rooms":["!0-1:example.org"]}}}, "timeline", "m.room.name", "@a:example.org", false, true],
+        [{"room":{"timeline":{"rooms":["!1-2:example.org"]}}}, "timeline", "m.room.name", "@a:example.org", false, false],
+        [{"room":{"timeline":{"not_rooms":["!0-1:example.org"]}}}, "timeline", "m.room.name", "@a:example.org", false, false],
+        [{"room":{"rooms":[]}}, "timeline", "m.room.name", "@a:example.org", false, true]
+    ]"#,
+    );
+    for row in list(&rt, &rows) {
+        assert!(&rt; passes(&rt, rt.alloc(), row) == bool_in(&rt, row, 5));
+    }
+}
+
+fn says(rt: &impl Abort, filter: &Filter, row: &Json) -> bool {
+    filter.limit == at(rt, row, 1).as_int().expect(rt, "a limit") as u64
+        && filter.picks(&ROOM, "example.org") == bool_in(rt, row, 2)
+        && filter.selection.lazy == bool_in(rt, row, 3)
+        && filter.selection.include_leave == bool_in(rt, row, 4)
+        && filter.passes_type(DataPart::Account, "m.direct") == bool_in(rt, row, 5)
+        && filter.passes_type(DataPart::Ephemeral, "m.receipt") == bool_in(rt, row, 6)
+}
+
+#[test]
+fn a_filter_says_its_limit_rooms_and_types(rt: HostRuntime) {
+    let rows = json(
+        &rt,
+        rt.alloc(),
+        r#"[
+        [{}, 10, true, false, false, true, true],
+        [{"room":{"timeline":{"limit":0}}}, 0, true, false, false, true, true],
+        [{"room":{"timeline":{"limit":1001}}}, 1000, true, false, false, true, true],
+        [{"room":{"state":{"limit":3,"lazy_load_members":true}}}, 10, true, true, false, true, true],
+        [{"room":{"rooms":[],"include_leave":true}}, 10, false, false, true, true, true],
+        [{"room":{"not_rooms":["!0-1:example.org"]}}, 10, false, false, false, true, true],
+        [{"room":{"rooms":["!0-1:example.org"],"ephemeral":{"types":["m.typing"]}}}, 10, true, false, false, true, false],
+        [{"account_data":{"not_types":["m.*"]}}, 10, true, false, false, false, true]
+    ]"#,
+    );
+    for row in list(&rt, &rows) {
+        let filter = read(rt.alloc(), at(&rt, row, 0)).expect(&rt, "a filter");
+        assert!(&rt; says(&rt, &filter, row));
+    }
+    let all = everything(rt.alloc()).expect(&rt, "memory");
+    let row = at(&rt, &rows, 0);
+    assert!(&rt; says(&rt, &all, row));
+}

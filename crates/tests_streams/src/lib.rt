@@ -1,0 +1,9 @@
+//! Tests of running streams and of their writers, through their public items.
+#![tactic(auto)]
+
+#[cfg(test)]
+mod runs;
+#[cfg(test)]
+mod streams;
+#[cfg(test)]
+mod writes;

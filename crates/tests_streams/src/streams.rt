@@ -1,0 +1,362 @@
+//! A running stream: three writers with the stop 4, a stream that gets full, and two threads that write at once.
+
+ghost use Rattle.std.specs.Prelude.{◌≡◌, ◌≤◌, [], ◌∷◌, None, IfOk};
+ghost use Rattle.mx_front.specs.Shown.{place_of, writers_of, place_of_pen, place_of_pass, known};
+ghost use Rattle.mx_front.specs.Start.{IsNewPen, AreNewPens};
+ghost use Rattle.mx_front.specs.Told.{block_at};
+
+use crate::runs::ends_of_runs;
+use mx_front::{Drawn, Full, Pass, Pen, Stream, seats_see_one_history, stream};
+use mx_ids::{Memory, Seq};
+use mx_writers::Number;
+use std::alloc::Global;
+use std::process::Abort;
+use std::sync::Wait;
+use std::test::*;
+use std::thread;
+use std::thread::Threads;
+
+fn one(alloc: Global, value: u64) -> Result<Seq<Number>, Memory>
+    ensures { IfOk result (λ items. items ≡ record { value = value } ∷ []) }
+{
+    let mut items = Seq::new(alloc);
+    items.push(Number { value })?;
+    Ok(items)
+}
+
+/// The three pens, in the order of their writers.
+fn three(stream: &Stream<Number>, pens: Seq<Pen<Number>>) -> (Pen<Number>, Pen<Number>, Pen<Number>)
+    requires { AreNewPens (place_of stream.now) (writers_of stream.now) 3 pens }
+    ensures first { IsNewPen (place_of stream.now) (writers_of stream.now) 0 result.0 }
+    ensures second { IsNewPen (place_of stream.now) (writers_of stream.now) 1 result.1 }
+    ensures third { IsNewPen (place_of stream.now) (writers_of stream.now) 2 result.2 }
+{
+    let mut pens = pens.into_vec().into_iter();
+    let first = pens.next().unwrap();
+    let second = pens.next().unwrap();
+    let third = pens.next().unwrap();
+    (first, second, third)
+}
+
+/// Makes room for one item and draws one position.
+fn draw_one<R: Wait + Abort>(
+    rt: &R,
+    stream: &Stream<Number>,
+    pen: &mut Pen<Number>,
+) -> Result<Drawn, Full>
+    requires stream { place_of_pen pen.old ≡ place_of stream.now }
+    requires free { (known pen.old).block ≡ None }
+    ensures stream { place_of_pen pen.new ≡ place_of_pen pen.old }
+    ensures drawn { IfOk result (λ d. (d.count ≡ 1) × ((known pen.new).block ≡ block_at d.first d.count)) }
+{
+    stream.reserve(rt, pen, 1).expect(rt, "memory");
+    stream.draw(pen, 1)
+}
+
+/// Stores one number at a block of one position.
+fn finish_one<R: Wait + Abort>(
+    rt: &R,
+    alloc: Global,
+    stream: &Stream<Number>,
+    pen: &mut Pen<Number>,
+    drawn: Drawn,
+    value: u64,
+) -> u64
+    requires stream { place_of_pen pen.old ≡ place_of stream.now }
+    requires block { (drawn.count ≡ 1) × ((known pen.old).block ≡ block_at drawn.first drawn.count) }
+    ensures stream { place_of_pen pen.new ≡ place_of_pen pen.old }
+    ensures free { (known pen.new).block ≡ None }
+{
+    let items = one(alloc, value).expect(rt, "memory");
+    stream.finish(rt, pen, drawn, items)
+}
+
+/// The pen of the first writer.
+fn first_pen(stream: &Stream<Number>, pens: Seq<Pen<Number>>) -> Pen<Number>
+    requires { AreNewPens (place_of stream.now) (writers_of stream.now) 3 pens }
+    ensures { IsNewPen (place_of stream.now) (writers_of stream.now) 0 result }
+{
+    three(stream, pens).0
+}
+
+/// A look of a pass sees so many stores, and up to the front just these numbers.
+fn expect_items<R: Wait + Abort>(
+    rt: &R,
+    alloc: Global,
+    stream: &Stream<Number>,
+    pass: &mut Pass<Number>,
+    stores: u64,
+    values: &[u64],
+)
+    requires { place_of_pass pass.old ≡ place_of stream.now }
+    ensures { place_of_pass pass.new ≡ place_of_pass pass.old }
+{
+    let parts = stream.look(rt, alloc, pass).expect(rt, "memory");
+    let front = values.len() as u64;
+    assert_eq!(rt; (parts.stores(), parts.front()), (stores, front));
+    let mut position = 1u64;
+    for value in values {
+        let found = parts.at(position).map(|item| item.value);
+        assert_eq!(rt; found, Some(*value), "at {position}");
+        position = position.saturating_add(1);
+    }
+}
+
+/// A pen of a stream with a block of one position.
+#[derive(Drop)]
+struct Holder<'a> {
+    stream: &'a Stream<Number>,
+    pen: Pen<Number>,
+    drawn: Drawn,
+    ghost place: { place_of_pen pen ≡ place_of stream.now },
+    ghost block: { (drawn.count ≡ 1) × ((known pen).block ≡ block_at drawn.first drawn.count) },
+}
+
+fn holding<'a, R: Wait + Abort>(
+    rt: &R,
+    stream: &'a Stream<Number>,
+    mut pen: Pen<Number>,
+) -> Holder<'a>
+    requires stream { place_of_pen pen ≡ place_of stream.now }
+    requires free { (known pen).block ≡ None }
+{
+    let drawn = draw_one(rt, stream, &mut pen).expect(rt, "room");
+    Holder { stream, pen, drawn }
+}
+
+/// The holders of the positions 1, 2 and 3.
+fn three_holding<'a, R: Wait + Abort>(
+    rt: &R,
+    stream: &'a Stream<Number>,
+    pens: Seq<Pen<Number>>,
+) -> (Holder<'a>, Holder<'a>, Holder<'a>)
+    requires { AreNewPens (place_of stream.now) (writers_of stream.now) 3 pens }
+{
+    let (first, second, third) = three(stream, pens);
+    let first = holding(rt, stream, first);
+    let second = holding(rt, stream, second);
+    let third = holding(rt, stream, third);
+    assert_eq!(rt;
+        (first.drawn.first, second.drawn.first, third.drawn.first),
+        (1, 2, 3)
+    );
+    (first, second, third)
+}
+
+/// The front after the store of a number.
+fn front_after<R: Wait + Abort>(rt: &R, alloc: Global, holder: Holder<'_>, value: u64) -> u64 {
+    let Holder {
+        stream,
+        mut pen,
+        drawn,
+    } = holder;
+    finish_one(rt, alloc, stream, &mut pen, drawn, value)
+}
+
+/// A store above a gap is seen, and leaves the front at 0.
+fn expect_store_ahead<R: Wait + Abort>(
+    rt: &R,
+    alloc: Global,
+    stream: &Stream<Number>,
+    pass: &mut Pass<Number>,
+    third: Holder<'_>,
+)
+    requires { place_of_pass pass.old ≡ place_of stream.now }
+    ensures { place_of_pass pass.new ≡ place_of_pass pass.old }
+{
+    assert_eq!(rt; front_after(rt, alloc, third, 30), 0);
+    expect_items(rt, alloc, stream, pass, 1, &[]);
+}
+
+#[test]
+fn stores_out_of_order_move_the_front(rt: HostRuntime) {
+    let alloc = rt.alloc();
+    let (stream, pens, mut pass) = stream::<Number>(alloc, 3, 4).expect(&rt, "memory");
+    let (first, second, third) = three_holding(&rt, &stream, pens);
+    expect_store_ahead(&rt, alloc, &stream, &mut pass, third);
+    assert_eq!(rt; front_after(&rt, alloc, first, 10), 1);
+    assert_eq!(rt; front_after(&rt, alloc, second, 20), 3);
+    expect_items(&rt, alloc, &stream, &mut pass, 3, &[10, 20, 30]);
+}
+
+/// The last of three stores, the last position below the stop, and then a full stream.
+fn expect_last_position<R: Wait + Abort>(rt: &R, alloc: Global, holder: Holder<'_>) {
+    let Holder {
+        stream,
+        mut pen,
+        drawn,
+    } = holder;
+    assert_eq!(rt; finish_one(rt, alloc, stream, &mut pen, drawn, 20), 3);
+    let last = draw_one(rt, stream, &mut pen).expect(rt, "room");
+    assert_eq!(rt; last.first, 4);
+    assert_eq!(rt; finish_one(rt, alloc, stream, &mut pen, last, 40), 4);
+    assert_eq!(rt; draw_one(rt, stream, &mut pen), Err(Full { next: 4 }));
+}
+
+#[test]
+fn the_last_position_below_the_stop_is_drawn_and_then_none(rt: HostRuntime) {
+    let alloc = rt.alloc();
+    let (stream, pens, _pass) = stream::<Number>(alloc, 3, 4).expect(&rt, "memory");
+    let (first, second, third) = three_holding(&rt, &stream, pens);
+    assert_eq!(rt; front_after(&rt, alloc, third, 30), 0);
+    assert_eq!(rt; front_after(&rt, alloc, first, 10), 1);
+    expect_last_position(&rt, alloc, second);
+}
+
+/// Draws and stores the one position of a stream, and then finds it full.
+fn expect_one_position<R: Wait + Abort>(
+    rt: &R,
+    alloc: Global,
+    stream: &Stream<Number>,
+    pen: &mut Pen<Number>,
+)
+    requires stream { place_of_pen pen.old ≡ place_of stream.now }
+    requires free { (known pen.old).block ≡ None }
+{
+    let drawn = draw_one(rt, stream, pen).expect(rt, "room");
+    assert_eq!(rt; finish_one(rt, alloc, stream, pen, drawn, 10), 1);
+    assert_eq!(rt; draw_one(rt, stream, pen), Err(Full { next: 1 }));
+}
+
+#[test]
+fn a_stream_without_positions_is_full(rt: HostRuntime) {
+    let (stream, pens, _pass) = stream::<Number>(rt.alloc(), 3, 0).expect(&rt, "memory");
+    let mut first = first_pen(&stream, pens);
+    assert_eq!(rt; draw_one(&rt, &stream, &mut first), Err(Full { next: 0 }));
+}
+
+#[test]
+fn a_stream_is_full_once_its_positions_are_drawn(rt: HostRuntime) {
+    let alloc = rt.alloc();
+    let (stream, pens, _pass) = stream::<Number>(alloc, 3, 1).expect(&rt, "memory");
+    let mut first = first_pen(&stream, pens);
+    expect_one_position(&rt, alloc, &stream, &mut first);
+}
+
+/// The fronts that three stores in this order answer.
+fn fronts<R: Wait + Abort>(
+    rt: &R,
+    alloc: Global,
+    one: Holder<'_>,
+    two: Holder<'_>,
+    last: Holder<'_>,
+) -> (u64, u64, u64) {
+    let first = front_after(rt, alloc, one, 0);
+    let second = front_after(rt, alloc, two, 0);
+    (first, second, front_after(rt, alloc, last, 0))
+}
+
+/// The fronts where the pen of one writer stores after the two others.
+fn fronts_with_held<R: Wait + Abort>(rt: &R, alloc: Global, held: u8) -> (u64, u64, u64) {
+    let (stream, pens, _pass) = stream::<Number>(alloc, 3, 4).expect(rt, "memory");
+    let (first, second, third) = three_holding(rt, &stream, pens);
+    match held {
+        0 => fronts(rt, alloc, second, third, first),
+        1 => fronts(rt, alloc, first, third, second),
+        _ => fronts(rt, alloc, first, second, third),
+    }
+}
+
+#[test]
+fn each_pen_in_turn_holds_the_front(rt: HostRuntime) {
+    let alloc = rt.alloc();
+    assert_eq!(rt; fronts_with_held(&rt, alloc, 0), (0, 0, 3));
+    assert_eq!(rt; fronts_with_held(&rt, alloc, 1), (1, 1, 3));
+    assert_eq!(rt; fronts_with_held(&rt, alloc, 2), (1, 2, 3));
+}
+
+/// A pen stores a number, and a pass sees it by a note.
+fn store_noted<R: Wait + Abort>(
+    rt: &R,
+    alloc: Global,
+    stream: &Stream<Number>,
+    pen: &mut Pen<Number>,
+    pass: &mut Pass<Number>,
+)
+    requires pen { place_of_pen pen.old ≡ place_of stream.now }
+    requires free { (known pen.old).block ≡ None }
+    requires pass { place_of_pass pass.old ≡ place_of stream.now }
+    ensures { place_of_pass pass.new ≡ place_of_pass pass.old }
+{
+    let drawn = draw_one(rt, stream, pen).expect(rt, "room");
+    assert_eq!(rt; finish_one(rt, alloc, stream, pen, drawn, 10), 1);
+    assert!(rt; stream.note(pen, pass).is_ok());
+}
+
+#[test]
+fn passes_meet_and_note(rt: HostRuntime) {
+    let alloc = rt.alloc();
+    let (stream, pens, mut pass) = stream::<Number>(alloc, 3, 4).expect(&rt, "memory");
+    let mut first = first_pen(&stream, pens);
+    let mut other = stream.pass(&mut pass).expect(&rt, "memory");
+    store_noted(&rt, alloc, &stream, &mut first, &mut pass);
+    stream.meet(&mut other, pass);
+    expect_items(&rt, alloc, &stream, &mut other, 1, &[10]);
+}
+
+/// A pen of a stream without a block.
+#[derive(Drop)]
+struct Writer<'a> {
+    stream: &'a Stream<Number>,
+    pen: Pen<Number>,
+    ghost place: { place_of_pen pen ≡ place_of stream.now },
+    ghost free: { (known pen).block ≡ None },
+}
+
+/// Stores the numbers from `from` to `from + 49`, one at a time.
+fn fifty<R: Wait + Abort>(rt: &R, alloc: Global, writer: Writer<'_>, from: u64) -> bool {
+    let Writer { stream, mut pen } = writer;
+    'writes: for more in 0..50u64 {
+        let Ok(drawn) = draw_one(rt, stream, &mut pen) else {
+            return false;
+        };
+        finish_one(rt, alloc, stream, &mut pen, drawn, from | more);
+    }
+    true
+}
+
+fn fifty_each<R: Threads + Wait + Abort + Sync>(
+    rt: &R,
+    alloc: Global,
+    one: Writer<'_>,
+    two: Writer<'_>,
+) -> (bool, bool) {
+    thread::join(
+        rt,
+        move || fifty(rt, alloc, one, 0),
+        move || fifty(rt, alloc, two, 1024),
+    )
+}
+
+/// The first two of three writers store fifty numbers at once.
+fn expect_fifty_each<R: Threads + Wait + Abort + Sync>(
+    rt: &R,
+    alloc: Global,
+    stream: &Stream<Number>,
+    pens: Seq<Pen<Number>>,
+)
+    requires { AreNewPens (place_of stream.now) (writers_of stream.now) 3 pens }
+{
+    let (first, second, _third) = three(stream, pens);
+    let one = Writer { stream, pen: first };
+    let two = Writer {
+        stream,
+        pen: second,
+    };
+    assert_eq!(rt; fifty_each(rt, alloc, one, two), (true, true));
+}
+
+#[test]
+fn threads_store_side_by_side(rt: HostRuntime) {
+    let alloc = rt.alloc();
+    let (stream, pens, mut pass) = stream::<Number>(alloc, 3, 1000).expect(&rt, "memory");
+    expect_fifty_each(&rt, alloc, &stream, pens);
+    let parts = stream.look(&rt, alloc, &mut pass).expect(&rt, "memory");
+    assert_eq!(rt; (parts.stores(), parts.front()), (100, 100));
+    assert_eq!(rt; ends_of_runs(&parts, 0, 1024), (50, 1074));
+}
+
+#[test]
+fn the_law_holds_of_numbers() {
+    seats_see_one_history::<Number>();
+}
