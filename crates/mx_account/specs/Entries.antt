@@ -1,5 +1,5 @@
 -- The entries of the stream of account data.
-use Rattle.std.specs.Prelude.{ℕ, ◌&&◌, Bool, true, false, List, Option, Some, None, nat_eq, if◌then◌else◌}
+use Rattle.std.specs.Prelude.{ℕ, ◌&&◌, Bool, true, false, List, [], Option, Some, None, nat_eq, if◌then◌else◌}
 use Rattle.std.specs.Borrow.{Bor}
 use Rattle.std.specs.Str.{bytes_eq}
 use Rattle.mx_ids.specs.declared.room_id.RoomId.{RoomId}
@@ -21,6 +21,7 @@ content_of (entry.Filter user id filter at) = filter
 -- the type of what an entry holds
 abbrev pub kind_of : Entry → List ℕ
 kind_of (entry.Data user room kind content at) = kind
+kind_of (entry.Filter user id filter at) = []
 
 -- the same entry at another position
 abbrev pub placed_at : Entry → ℕ → Entry

@@ -43,6 +43,7 @@ content-append kind xs ys =
 
 data_is : (user kind : List ℕ) (e : Entry) → is_data_of user None kind e ≡ (is_of user None e && bytes_eq (kind_of e) kind)
 data_is user kind (entry.Data own_user room own_kind content at) = refl
+data_is user kind (entry.Filter own_user id filter at) = refl
 
 module _ {R V D F P : Type 0} (w : Server R V D F P) (user : List ℕ) (f : F) (kind : List ℕ) where
   abbrev last_content : List Entry → ℕ → ℕ → Option Json

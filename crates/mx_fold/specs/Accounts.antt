@@ -20,8 +20,8 @@ module _ {R V D F P : Type 0} (w : Server R V D F P) (entries : List Entry) (use
   abbrev pub set_between : ℕ → ℕ → List (List ℕ × Json)
   set_between low high =
       map (λ e. (kind_of e, content_of e))
-          (filter (λ e. w.passes_type f (kind_of e))
-              (current (λ e d. bytes_eq (kind_of d) (kind_of e)) (between position_of low high (filter (is_of user None) entries))))
+      (filter (λ e. w.passes_type f (kind_of e))
+      (current (λ e d. bytes_eq (kind_of d) (kind_of e)) (between position_of low high (filter (is_of user None) entries))))
 
   -- without `since` all, with the defaults of types that aren't set; else the types set after it
   abbrev pub account_sent : Option SyncToken → ℕ → List (List ℕ × Json)

@@ -34,7 +34,7 @@ find_gap low high cut [] = None
 find_gap low high cut (Held c ∷ es) = option_map (λ (g : Gap _). record g { before = Held c ∷ g.before }) (find_gap low high cut es)
 find_gap low high cut (Open lower upper front ∷ es) =
     cond (nat_eq lower low && (nat_eq upper high && nat_eq front cut))
-        (Some (record { before = []; lower = lower; upper = upper; front = front; behind = es }))
+    (Some (record { before = []; lower = lower; upper = upper; front = front; behind = es }))
     (option_map (λ (g : Gap _). record g { before = Open lower upper front ∷ g.before }) (find_gap low high cut es))
 
 module _ {R V D F P : Type 0} (w : Server R V D F P) (user : List ℕ) (f : F) where

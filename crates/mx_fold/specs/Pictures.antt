@@ -63,7 +63,7 @@ Shows r es b t front p (Asked ids) had = (had.joined ≡ None) × (had.invited �
 abbrev pub HoldsPicture : {R V D F P : Type 0} → Server R V D F P → Lists R → List ℕ → F → SyncToken → ℕ → RoomId → Holding Event Key V → Type 0
 HoldsPicture w lists user f t front room had =
     Shows (room_of (w.sieve f room) user (events_in lists room)) (events_in lists room) t.b t.e front (picture w lists user f t room)
-        (picture w lists user f t room).standing had
+    (picture w lists user f t room).standing had
 
 -- Without an open gap a client holds just the picture's timeline, and without lazy members just its state.
 abbrev pub ClosedIsPicture : Type 0 → Type 0
