@@ -11,7 +11,6 @@ use Rattle.mx_json.specs.contracts.value.Json as Json
 use Rattle.mx_json.proofs.value.Json.TheLaws.TheKnot.{crosses as json}
 use Rattle.mx_auth.specs.contracts.kept.Kept as Kept
 use Rattle.mx_auth.specs.contracts.kept.Change as Change
-use Rattle.mx_auth.specs.contracts.kept.Waiting as Waiting
 use Rattle.mx_auth.proofs.places.Places.TheSendSync as places
 use Rattle.mx_auth.proofs.taken.Taken.TheSendSync as taken
 
@@ -27,12 +26,6 @@ change_send = variants_send Change.enum (tt, ((user.the_send, tt), ((search (tex
 change_sync : IsSync Change.the_row
 change_sync = variants_sync Change.enum (tt, ((user.the_sync, tt), ((search (text.the_sync, sendable) depth 9, tt), ((json_sync, tt), ((search (text.the_sync, sendable) depth 9, tt), tt)))))
 
-waiting_send : IsSend Waiting.the_row
-waiting_send = declared_send Waiting.the_type (change_send, (user.the_send, tt))
-
-waiting_sync : IsSync Waiting.the_row
-waiting_sync = declared_sync Waiting.the_type (change_sync, (user.the_sync, tt))
-
 kept_send : IsSend Kept.the_row
 kept_send = search (json_send, user.the_send, text.the_send, places.the_send, sendable, crosses, maps) depth 30
 
@@ -40,7 +33,7 @@ kept_sync : IsSync Kept.the_row
 kept_sync = search (json_sync, user.the_sync, text.the_sync, places.the_sync, sendable, crosses, maps) depth 30
 
 pub send : IsSend AuthState.the_row
-send = view_send inside.the_row _ _ _ _ (declared_send inside.the_type (search sendable depth 9, (kept_send, (search (waiting_send, crosses, sendable) depth 9, (taken.the_send, (taken.the_send, tt))))))
+send = view_send inside.the_row _ _ _ _ (declared_send inside.the_type (search sendable depth 9, (kept_send, (search (change_send, crosses, sendable) depth 9, (taken.the_send, (taken.the_send, tt))))))
 
 pub sync : IsSync AuthState.the_row
-sync = view_sync inside.the_row _ _ _ _ (declared_sync inside.the_type (search sendable depth 9, (kept_sync, (search (waiting_sync, crosses, sendable) depth 9, (taken.the_sync, (taken.the_sync, tt))))))
+sync = view_sync inside.the_row _ _ _ _ (declared_sync inside.the_type (search sendable depth 9, (kept_sync, (search (change_sync, crosses, sendable) depth 9, (taken.the_sync, (taken.the_sync, tt))))))

@@ -30,15 +30,15 @@ same-cond true o h = sym (h refl)
 same-cond false o h = refl
 
 -- an entry without a membership is put where there was none
-pub membership_room : (m n : Memberships) (key : List ℕ) (k : String Global) (there : Bool) → string_bytes k ≡ key → there ≡ is_some (tree.get_by_text m key) → there ≡ false → tree.Updates string_cmp m n k (Some None)
+pub membership_place : (m n : Memberships) (key : List ℕ) (k : String Global) (there : Bool) → string_bytes k ≡ key → there ≡ is_some (tree.get_by_text m key) → there ≡ false → tree.Updates string_cmp m n k (Some None)
     → (user : List ℕ) → membership_at n user ≡ membership_at m user
-membership_room m n key k there is found absent h user =
+membership_place m n key k there is found absent h user =
     membership_set m n (string_bytes k) None h user ∙ ap (λ b. cond (bytes_eq b user) None (membership_at m user)) is ∙ same-cond (bytes_eq key user) (membership_at m user)
     (λ hit. ap (λ q. membership_at m q) (sym ((bytes_eq-Decides key user).0 hit)) ∙ ap option_flatten (none_of (tree.get_by_text m key) (sym found ∙ absent)))
 
 -- ---- keys
 
-still-some : {X : Type 0} (b : Bool) (w : X) (o : Option X) → IsSome o → IsSome (cond b (Some w) o)
+pub still-some : {X : Type 0} (b : Bool) (w : X) (o : Option X) → IsSome o → IsSome (cond b (Some w) o)
 still-some true w o h = refl
 still-some false w o h = h
 

@@ -21,9 +21,9 @@ use Rattle.mx_auth.specs.declared.kept.Change.{Change}
 use Rattle.mx_auth.specs.declared.kept.Change.TheVariants.{Nothing, Creator, JoinRule, Powers, Membership}
 use Rattle.mx_auth.specs.declared.kept.Count.{Count}
 use Rattle.mx_auth.specs.declared.kept.Kept.{Kept}
-use Rattle.mx_auth.specs.declared.kept.Waiting.{Waiting}
-use Rattle.mx_auth.specs.Kept.{Memberships, HasRoom, IsKept, IsSet, IsWaiting, KeysStay, any_sent, count_of, next_count, change_of, creator_after, join_rule_after, powers_after, membership_after, membership_at, waiting_of}
-use Rattle.mx_auth.specs.Placing.{PlaceList, PlaceTest, any_place}
+use Rattle.mx_auth.specs.Kept.{Memberships, HasPlace, IsKept, IsSet, IsWaiting, KeysStay, any_sent, count_of, next_count, change_of, creator_after, join_rule_after, powers_after, membership_after, membership_at}
+use Rattle.mx_auth.proofs.Numbering.{still_in}
+use Rattle.mx_auth.specs.Placing.{Longer, PlaceList, PlaceTest, any_place, is_in}
 
 -- ---- the definitions over one event more
 
@@ -166,20 +166,20 @@ module _ (e : Event) where
       ∙ ap (λ b. cond b (membership_in e.content) old) (about (is_of member_type e) e.state_key user)
 
 -- what is kept, once a change is set
-pub next_kept : (old new : Kept) (n : Count) (places : PlaceList) (es : List Event) (e : Event) (w : Waiting) (key : List ℕ) (at : ℕ)
-    → n ≡ next_count old.count → ((test : PlaceTest) → any_place test places.items ≡ (test at w.sender || any_place test old.places.items))
-    → IsSet w.change key (record old { count = n; places = places }) new → w ≡ waiting_of e → key ≡ target e → at ≡ e.id.at → IsKept old es → IsKept new (es ++ e ∷ [])
-next_kept old new n places es e w key at more_by_one more set is about stands kept = record {
+pub next_kept : (old new : Kept) (n : Count) (places : PlaceList) (es : List Event) (e : Event) (w : Change) (key sender : List ℕ) (at : ℕ)
+    → n ≡ next_count old.count → ((test : PlaceTest) → any_place test places.items ≡ (test at sender || any_place test old.places.items))
+    → IsSet w key (record old { count = n; places = places }) new → w ≡ change_of e → key ≡ target e → sender ≡ e.sender → at ≡ e.id.at → IsKept old es → IsKept new (es ++ e ∷ [])
+next_kept old new n places es e w key sender at more_by_one more set is about whose stands kept = record {
   counted = set.counted ∙ more_by_one ∙ ap next_count kept.counted ∙ count_more es e;
-  created = set.created ∙ ap (λ (v : Waiting). creator_after v.change old.creator) is ∙ creator_changed e old.creator ∙ ap (cond (has_key create_type [] e) (Some e.sender)) kept.created ∙ sym (creator_more es e);
-  ruled = set.ruled ∙ ap (λ (v : Waiting). join_rule_after v.change old.join_rule) is ∙ rule_changed e old.join_rule ∙ ap (cond (has_key join_rules_type [] e) (text_at (codes "join_rule") e.content)) kept.ruled ∙ sym (join_rule_more es e);
-  leveled = set.leveled ∙ ap (λ (v : Waiting). powers_after v.change old.powers) is ∙ powers_changed e old.powers ∙ ap (cond (has_key power_type [] e) (Some e.content)) kept.leveled ∙ sym (powers_more es e);
+  created = set.created ∙ ap (λ v. creator_after v old.creator) is ∙ creator_changed e old.creator ∙ ap (cond (has_key create_type [] e) (Some e.sender)) kept.created ∙ sym (creator_more es e);
+  ruled = set.ruled ∙ ap (λ v. join_rule_after v old.join_rule) is ∙ rule_changed e old.join_rule ∙ ap (cond (has_key join_rules_type [] e) (text_at (codes "join_rule") e.content)) kept.ruled ∙ sym (join_rule_more es e);
+  leveled = set.leveled ∙ ap (λ v. powers_after v old.powers) is ∙ powers_changed e old.powers ∙ ap (cond (has_key power_type [] e) (Some e.content)) kept.leveled ∙ sym (powers_more es e);
   joined = λ user.
-      set.joined user ∙ ap (λ (v : Waiting). membership_after v.change key user (membership_at old.memberships user)) is
+      set.joined user ∙ ap (λ v. membership_after v key user (membership_at old.memberships user)) is
       ∙ ap (λ k. membership_after (change_of e) k user (membership_at old.memberships user)) about
       ∙ membership_changed e user (membership_at old.memberships user) ∙ ap (cond (has_key member_type user e) (membership_in e.content)) (kept.joined user) ∙ sym (membership_more user es e);
   placed = λ test.
-      ap (λ (l : PlaceList). any_place test l.items) set.placed ∙ more test ∙ ap₂ (λ (p : ℕ) (v : Waiting). test p v.sender || any_place test old.places.items) stands is
+      ap (λ (l : PlaceList). any_place test l.items) set.placed ∙ more test ∙ ap₂ (λ p who. test p who || any_place test old.places.items) stands whose
       ∙ ap (λ b. test e.id.at e.sender || b) (kept.placed test) ∙ sym (sent_more test es e);
 }
 
@@ -197,49 +197,80 @@ still_kept old ms places es same again kept = record {
 
 -- ---- what waits
 
--- the room for an event stands where no key is lost
-stays : (c : Change) (key : List ℕ) (m n : Memberships) → KeysStay m n → HasRoom c key m → HasRoom c key n
+-- the place for a membership stands where no key is lost
+stays : (c : Change) (key : List ℕ) (m n : Memberships) → KeysStay m n → HasPlace c key m → HasPlace c key n
 stays Nothing key m n keys h = h
 stays (Creator user) key m n keys h = h
 stays (JoinRule text) key m n keys h = h
 stays (Powers content) key m n keys h = h
 stays (Membership membership) key m n keys h = keys key h
 
-rooms_stay : (m n : Memberships) (es : List Event) → KeysStay m n → AllByRecursion (λ (e : Event). HasRoom (change_of e) (target e) m) es → AllByRecursion (λ (e : Event). HasRoom (change_of e) (target e) n) es
-rooms_stay m n es keys = AllByRecursion-weaker (λ (e : Event). HasRoom (change_of e) (target e) m) (λ (e : Event). HasRoom (change_of e) (target e) n) (λ e. stays (change_of e) (target e) m n keys) es
+members_stay : (m n : Memberships) (es : List Event) → KeysStay m n → AllByRecursion (λ (e : Event). HasPlace (change_of e) (target e) m) es → AllByRecursion (λ (e : Event). HasPlace (change_of e) (target e) n) es
+members_stay m n es keys = AllByRecursion-weaker (λ (e : Event). HasPlace (change_of e) (target e) m) (λ (e : Event). HasPlace (change_of e) (target e) n) (λ e. stays (change_of e) (target e) m n keys) es
+
+-- so do the senders
+known_stay : (old new : List (List ℕ)) (es : List Event) → Longer old new → AllByRecursion (λ (e : Event). is_in old e.sender ≡ true) es → AllByRecursion (λ (e : Event). is_in new e.sender ≡ true) es
+known_stay old new es more =
+    AllByRecursion-weaker (λ (e : Event). is_in old e.sender ≡ true) (λ (e : Event). is_in new e.sender ≡ true) (λ e h. still_in old new e.sender more h) es
 
 -- what waits goes on waiting
-pub still_waiting : (old new : Kept) (ws : List Waiting) (es : List Event) → KeysStay old.memberships new.memberships → length es ≤ new.places.spare → IsWaiting old ws es → IsWaiting new ws es
-still_waiting old new ws es keys room h = record { copied = h.copied; rooms = rooms_stay old.memberships new.memberships es keys h.rooms; places = room }
+pub still_waiting : (old new : Kept) (ws : List Change) (es : List Event) → KeysStay old.memberships new.memberships → Longer old.places.names new.places.names → length es ≤ new.places.spare
+    → IsWaiting old ws es → IsWaiting new ws es
+still_waiting old new ws es keys names enough h = record {
+  copied = h.copied;
+  members = members_stay old.memberships new.memberships es keys h.members;
+  known = known_stay old.places.names new.places.names es names h.known;
+  places = enough;
+}
 
 -- one more waits
-pub more_waiting : (old new : Kept) (ws : List Waiting) (es : List Event) (w : Waiting) (e : Event) → KeysStay old.memberships new.memberships → length es + 1 ≤ new.places.spare
-    → w ≡ waiting_of e → HasRoom (change_of e) (target e) new.memberships → IsWaiting old ws es → IsWaiting new (ws ++ w ∷ []) (es ++ e ∷ [])
-more_waiting old new ws es w e keys room is here h = record {
-  copied = ap₂ (λ vs (v : Waiting). vs ++ v ∷ []) h.copied is ∙ sym (map-append waiting_of es (e ∷ []));
-  rooms = AllByRecursion-append (λ (x : Event). HasRoom (change_of x) (target x) new.memberships) es (e ∷ []) (rooms_stay old.memberships new.memberships es keys h.rooms) (here, tt);
-  places = omega (arith, room, length-append es (e ∷ []));
+pub more_waiting : (old new : Kept) (ws : List Change) (es : List Event) (w : Change) (e : Event) → KeysStay old.memberships new.memberships → Longer old.places.names new.places.names
+    → length es + 1 ≤ new.places.spare → w ≡ change_of e → HasPlace (change_of e) (target e) new.memberships → is_in new.places.names e.sender ≡ true
+    → IsWaiting old ws es → IsWaiting new (ws ++ w ∷ []) (es ++ e ∷ [])
+more_waiting old new ws es w e keys names enough is here who h = record {
+  copied = ap₂ (λ vs (v : Change). vs ++ v ∷ []) h.copied is ∙ sym (map-append change_of es (e ∷ []));
+  members = AllByRecursion-append (λ (x : Event). HasPlace (change_of x) (target x) new.memberships) es (e ∷ []) (members_stay old.memberships new.memberships es keys h.members) (here, tt);
+  known = AllByRecursion-append (λ (x : Event). is_in new.places.names x.sender ≡ true) es (e ∷ []) (known_stay old.places.names new.places.names es names h.known) (who, tt);
+  places = omega (arith, enough, length-append es (e ∷ []));
 }
 
 -- how many wait
-pub count_waiting : (kept : Kept) (ws : List Waiting) (es : List Event) → IsWaiting kept ws es → length ws ≡ length es
-count_waiting kept ws es h = ap length h.copied ∙ length-map es waiting_of
+pub count_waiting : (kept : Kept) (ws : List Change) (es : List Event) → IsWaiting kept ws es → length ws ≡ length es
+count_waiting kept ws es h = ap length h.copied ∙ length-map es change_of
 
--- the first that waits
-pub first_waiting : (kept : Kept) (ws : List Waiting) (es : List Event) (e : Event) → es ≡ e ∷ drop 1 es → IsWaiting kept ws es
-    → (ws ≡ waiting_of e ∷ map waiting_of (drop 1 es)) × HasRoom (change_of e) (target e) kept.memberships × (0 < kept.places.spare) × AllByRecursion (λ (x : Event). HasRoom (change_of x) (target x) kept.memberships) (drop 1 es) × (length (drop 1 es) + 1 ≤ kept.places.spare)
+-- the first that waits, and the others
+pub record FirstWaiting (kept : Kept) (ws : List Change) (es : List Event) (e : Event) : Type 0 where
+  pub first : ws ≡ change_of e ∷ map change_of (drop 1 es)
+  pub member : HasPlace (change_of e) (target e) kept.memberships
+  pub known : is_in kept.places.names e.sender ≡ true
+  pub place : 0 < kept.places.spare
+  pub members : AllByRecursion (λ (x : Event). HasPlace (change_of x) (target x) kept.memberships) (drop 1 es)
+  pub all_known : AllByRecursion (λ (x : Event). is_in kept.places.names x.sender ≡ true) (drop 1 es)
+  pub places : length (drop 1 es) + 1 ≤ kept.places.spare
+
+pub first_waiting : (kept : Kept) (ws : List Change) (es : List Event) (e : Event) → es ≡ e ∷ drop 1 es → IsWaiting kept ws es → FirstWaiting kept ws es e
 first_waiting kept ws es e is h =
-    let rooms = subst (AllByRecursion (λ (x : Event). HasRoom (change_of x) (target x) kept.memberships)) is h.rooms in
-    (h.copied ∙ ap (map waiting_of) is, rooms.0, omega (arith, h.places, ap length is), rooms.1, omega (arith, h.places, ap length is))
+    let members = subst (AllByRecursion (λ (x : Event). HasPlace (change_of x) (target x) kept.memberships)) is h.members in
+    let known = subst (AllByRecursion (λ (x : Event). is_in kept.places.names x.sender ≡ true)) is h.known in
+    record {
+      first = h.copied ∙ ap (map change_of) is;
+      member = members.0;
+      known = known.0;
+      place = omega (arith, h.places, ap length is);
+      members = members.1;
+      all_known = known.1;
+      places = omega (arith, h.places, ap length is);
+    }
 
 -- the others that wait, once the first is settled
-pub rest_waiting : (old new : Kept) (ws rest : List Waiting) (es : List Event) (e : Event) → es ≡ e ∷ drop 1 es → IsWaiting old ws es → rest ≡ drop 1 ws → KeysStay old.memberships new.memberships
-    → new.places.spare + 1 ≡ old.places.spare → IsWaiting new rest (drop 1 es)
-rest_waiting old new ws rest es e is h left keys spare =
+pub rest_waiting : (old new : Kept) (ws rest : List Change) (es : List Event) (e : Event) → es ≡ e ∷ drop 1 es → IsWaiting old ws es → rest ≡ drop 1 ws → KeysStay old.memberships new.memberships
+    → new.places.names ≡ old.places.names → new.places.spare + 1 ≡ old.places.spare → IsWaiting new rest (drop 1 es)
+rest_waiting old new ws rest es e is h left keys names spare =
     let first = first_waiting old ws es e is h in record {
-      copied = left ∙ ap (drop 1) first.0;
-      rooms = rooms_stay old.memberships new.memberships (drop 1 es) keys first.3;
-      places = omega (arith, first.4, spare);
+      copied = left ∙ ap (drop 1) first.first;
+      members = members_stay old.memberships new.memberships (drop 1 es) keys first.members;
+      known = subst (λ m. AllByRecursion (λ (x : Event). is_in m x.sender ≡ true) (drop 1 es)) (sym names) first.all_known;
+      places = omega (arith, first.places, spare);
     }
 
 first_or : {A : Type 0} → A → List A → A

@@ -1,11 +1,11 @@
 -- A list in the order of a number: what is found in it, and what is put into it.
 use Rattle.std.proofs.Common.{◌≡◌, ◌≢◌, ℕ, zero, suc, ◌≤◌, ◌<◌, Bool, true, false, not, cond, ◌&&◌, ◌||◌, ◌==◌, List, [], ◌∷◌, length, take, drop, leb, ltb, leb-true, filter, Result, Ok, is_ok, inl, inr, refl, sym, ap, ap₂, ◌∙◌, arith}
 use Rattle.std.proofs.lemmas.Bool.{cases_Bool, eq-eqb, ne_eqb, leb-false, ltb-true, ltb-false}
-use Rattle.std.proofs.lemmas.List.Sorted.{IsPermutation-insert, list_any-IsPermutation, IsNonDecreasingBy-insert}
+use Rattle.std.proofs.lemmas.List.Sorted.{IsNonDecreasingBy-insert}
 use Rattle.std.specs.List.{AllWithin, insert, list_any}
 use Rattle.std.specs.List.Sorted.{IsNonDecreasingBy, IsPartitionPoint}
-use Rattle.mx_auth.specs.Placing.{PlaceTest, any_place, is_placed, place_position}
-use Rattle.mx_auth.specs.declared.places.Place.{Place}
+use Rattle.mx_auth.specs.Placing.{is_sent_at, sent_position}
+use Rattle.mx_auth.specs.declared.places.SentAt.{SentAt}
 
 -- ---- where a test turns
 
@@ -81,23 +81,19 @@ at_test n at =
       meets m a l k = omega (arith, l, k)
 
 -- the places at a position
-pub places_at : (ps rest : List Place) (at from count : ℕ) → from ≤ length ps → IsPartitionPoint (λ (p : Place). ltb p.at at ≡ true) (λ (p : Place). ltb p.at at ≡ false) ps from
-    → rest ≡ drop from ps → count ≤ length rest → IsPartitionPoint (λ (p : Place). leb p.at at ≡ true) (λ (p : Place). leb p.at at ≡ false) rest count
-    → take count rest ≡ filter (is_placed at) ps
-places_at ps rest at from count b h is b' h' =
-    point_front (λ (p : Place). leb p.at at) rest count b' h'
-    ∙ ap (filter (λ (p : Place). leb p.at at)) (is ∙ point_back (λ (p : Place). ltb p.at at) ps from b h)
-    ∙ filter-both (λ (p : Place). leb p.at at) (λ (p : Place). not (ltb p.at at)) (is_placed at) (λ p. at_test p.at at) ps
-
--- a place more is found by each test that it passes
-pub any_put : (test : PlaceTest) (ps : List Place) (i : ℕ) (p : Place) → any_place test (insert ps i p) ≡ (test p.at p.sender || any_place test ps)
-any_put test ps i p = sym (list_any-IsPermutation (λ (q : Place). test q.at q.sender) (p ∷ ps) (insert ps i p) (IsPermutation-insert ps i p))
+pub sent_at_those : (ps rest : List SentAt) (at from count : ℕ) → from ≤ length ps → IsPartitionPoint (λ (p : SentAt). ltb p.at at ≡ true) (λ (p : SentAt). ltb p.at at ≡ false) ps from
+    → rest ≡ drop from ps → count ≤ length rest → IsPartitionPoint (λ (p : SentAt). leb p.at at ≡ true) (λ (p : SentAt). leb p.at at ≡ false) rest count
+    → take count rest ≡ filter (is_sent_at at) ps
+sent_at_those ps rest at from count b h is b' h' =
+    point_front (λ (p : SentAt). leb p.at at) rest count b' h'
+    ∙ ap (filter (λ (p : SentAt). leb p.at at)) (is ∙ point_back (λ (p : SentAt). ltb p.at at) ps from b h)
+    ∙ filter-both (λ (p : SentAt). leb p.at at) (λ (p : SentAt). not (ltb p.at at)) (is_sent_at at) (λ p. at_test p.at at) ps
 
 -- a place that is put where those with no larger position end keeps the order
-pub put_sorted : (ps : List Place) (i : ℕ) (p : Place) → IsNonDecreasingBy place_position ps → i ≤ length ps
-    → IsPartitionPoint (λ (q : Place). leb q.at p.at ≡ true) (λ (q : Place). leb q.at p.at ≡ false) ps i → IsNonDecreasingBy place_position (insert ps i p)
+pub put_sorted : (ps : List SentAt) (i : ℕ) (p : SentAt) → IsNonDecreasingBy sent_position ps → i ≤ length ps
+    → IsPartitionPoint (λ (q : SentAt). leb q.at p.at ≡ true) (λ (q : SentAt). leb q.at p.at ≡ false) ps i → IsNonDecreasingBy sent_position (insert ps i p)
 put_sorted ps i p sorted b h =
-    IsNonDecreasingBy-insert place_position ps i p sorted b (λ k d l. leb-true _ _ (h.0 k d (omega arith) l))
+    IsNonDecreasingBy-insert sent_position ps i p sorted b (λ k d l. leb-true _ _ (h.0 k d (omega arith) l))
     (λ k d l m. le_of_lt _ _ (leb-false _ _ (h.1 k d l m))) where
       le_of_lt : (a c : ℕ) → a < c → a ≤ c
       le_of_lt a c l = omega (arith, l)

@@ -5,7 +5,7 @@ use Rattle.std.specs.Str.{bytes_eq}
 use Rattle.mx_json.specs.Fields.{int_at, int_of, members_of}
 use Rattle.mx_json.specs.declared.members.Member.{Member}
 use Rattle.mx_json.specs.declared.value.Json.{Json}
-use Rattle.mx_event.specs.Changes.{passes_level, passes_user_level}
+use Rattle.mx_event.specs.Changes.{exceeds_level, exceeds_user_level}
 use Rattle.mx_auth.specs.declared.changes.LevelMap.{LevelMap}
 use Rattle.mx_auth.specs.declared.changes.LevelMap.TheVariants.{Events, Notifications, Users}
 
@@ -15,11 +15,11 @@ map_key Events = codes "events"
 map_key Notifications = codes "notifications"
 map_key Users = codes "users"
 
--- a change of an entry of a map passes the level of the sender
-abbrev pub passes : LevelMap → ℤ → List ℕ → List ℕ → Option ℤ → Option ℤ → Bool
-passes Events level sender key = passes_level level
-passes Notifications level sender key = passes_level level
-passes Users level sender key = passes_user_level level (bytes_eq key sender)
+-- a change of an entry of a map exceeds the level of the sender
+abbrev pub exceeds : LevelMap → ℤ → List ℕ → List ℕ → Option ℤ → Option ℤ → Bool
+exceeds Events level sender key = exceeds_level level
+exceeds Notifications level sender key = exceeds_level level
+exceeds Users level sender key = exceeds_user_level level (bytes_eq key sender)
 
 -- the members of a map, where it is there
 abbrev pub members_in : Option Json → List (Member Json)

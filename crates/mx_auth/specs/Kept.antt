@@ -1,5 +1,5 @@
 -- What is kept of the events of a room, and what an event changes of it.
-use Rattle.std.specs.Prelude.{◌≡◌, ℕ, ◌≤◌, Bool, ◌==◌, ◌&&◌, is_some, List, [], ◌∷◌, length, map, String, Option, Some, IsSome, if◌then◌else◌, codes}
+use Rattle.std.specs.Prelude.{◌≡◌, ℕ, ◌≤◌, Bool, true, ◌==◌, ◌&&◌, is_some, List, [], ◌∷◌, length, map, String, Option, Some, IsSome, if◌then◌else◌, codes}
 use Rattle.std.specs.BTreeMap.{BTreeMap, get_by_text}
 use Rattle.std.specs.declared.alloc.Global.{Global}
 use Rattle.std.specs.List.{AllByRecursion, list_any}
@@ -17,8 +17,7 @@ use Rattle.mx_auth.specs.declared.kept.Change.TheVariants.{Nothing, Creator, Joi
 use Rattle.mx_auth.specs.declared.kept.Count.{Count}
 use Rattle.mx_auth.specs.declared.kept.Count.TheVariants.{Zero, One, More}
 use Rattle.mx_auth.specs.declared.kept.Kept.{Kept}
-use Rattle.mx_auth.specs.declared.kept.Waiting.{Waiting}
-use Rattle.mx_auth.specs.Placing.{PlaceTest, any_place}
+use Rattle.mx_auth.specs.Placing.{PlaceTest, any_place, is_in}
 
 abbrev pub count_of : List Event → Count
 count_of [] = Zero
@@ -110,20 +109,17 @@ pub record IsSet (change : Change) (key : List ℕ) (old new : Kept) : Type 0 wh
   pub placed : new.places ≡ old.places
   pub keys : KeysStay old.memberships new.memberships
 
--- there is room for the membership that a change sets under a key
-abbrev pub HasRoom : Change → List ℕ → Memberships → Type 0
-HasRoom Nothing key m = Unit {0}
-HasRoom (Creator user) key m = Unit {0}
-HasRoom (JoinRule rule) key m = Unit {0}
-HasRoom (Powers content) key m = Unit {0}
-HasRoom (Membership membership) key m = IsSome (get_by_text m key)
+-- there is a place for the membership that a change sets under a key
+abbrev pub HasPlace : Change → List ℕ → Memberships → Type 0
+HasPlace Nothing key m = Unit {0}
+HasPlace (Creator user) key m = Unit {0}
+HasPlace (JoinRule rule) key m = Unit {0}
+HasPlace (Powers content) key m = Unit {0}
+HasPlace (Membership membership) key m = IsSome (get_by_text m key)
 
--- what waits to be settled of an event
-abbrev pub waiting_of : Event → Waiting
-waiting_of e = record { change = change_of e; sender = e.sender }
-
--- there is room for events, of which these parts wait
-pub record IsWaiting (kept : Kept) (ws : List Waiting) (es : List Event) : Type 0 where
-  pub copied : ws ≡ map waiting_of es
-  pub rooms : AllByRecursion (λ (e : Event). HasRoom (change_of e) (target e) kept.memberships) es
+-- events are ready, of which these changes wait
+pub record IsWaiting (kept : Kept) (ws : List Change) (es : List Event) : Type 0 where
+  pub copied : ws ≡ map change_of es
+  pub members : AllByRecursion (λ (e : Event). HasPlace (change_of e) (target e) kept.memberships) es
+  pub known : AllByRecursion (λ (e : Event). is_in kept.places.names e.sender ≡ true) es
   pub places : length es ≤ kept.places.spare

@@ -4,8 +4,8 @@ ghost use Rattle.std.specs.List.{list_all, list_any};
 ghost use Rattle.mx_ids.specs.User.{is_user_id_text};
 ghost use Rattle.mx_json.specs.Fields.{field, int_at};
 ghost use Rattle.mx_json.specs.Keys.{are_ordered, keys_of};
-ghost use Rattle.mx_event.specs.Changes.{any_entry, differ, is_above, is_at_least, is_int, is_none_or, is_well_formed, maps_to_ints, maps_users_to_ints, passes_level, passes_own_level, passes_user_level};
-ghost use Rattle.mx_auth.specs.Entries.{any_new, any_old, int_in, map_key, members_in, passes};
+ghost use Rattle.mx_event.specs.Changes.{any_entry, differ, is_above, is_at_least, is_int, is_none_or, is_well_formed, maps_to_ints, maps_users_to_ints, exceeds_level, exceeds_own_level, exceeds_user_level};
+ghost use Rattle.mx_auth.specs.Entries.{any_new, any_old, exceeds, int_in, map_key, members_in};
 
 use mx_ids::{UserId, is_user_id};
 use mx_json::{Json, Member};
@@ -135,15 +135,15 @@ fn is_at_least(level: i64, value: Option<i64>) -> bool
 }
 
 /// Whether a change of a level is one from or to a level above the sender's.
-fn passes_level(level: i64, old: Option<i64>, new: Option<i64>) -> bool
-    ensures { result ≡ passes_level level old new }
+fn exceeds_level(level: i64, old: Option<i64>, new: Option<i64>) -> bool
+    ensures { result ≡ exceeds_level level old new }
 {
     differ(old, new) && (is_above(level, old) || is_above(level, new))
 }
 
 /// Whether a change of a user's level is one to a level above the sender's, or of another user from one that isn't below it.
-fn passes_user_level(level: i64, is_own: bool, old: Option<i64>, new: Option<i64>) -> bool
-    ensures { result ≡ passes_user_level level is_own old new }
+fn exceeds_user_level(level: i64, is_own: bool, old: Option<i64>, new: Option<i64>) -> bool
+    ensures { result ≡ exceeds_user_level level is_own old new }
 {
     differ(old, new) && ((!is_own && is_at_least(level, old)) || is_above(level, new))
 }
@@ -176,21 +176,21 @@ pub(crate) struct Sender<'a> {
     pub(crate) level: i64,
 }
 
-/// Whether a change of an entry of a map of levels passes the sender's level.
-fn passes(map: LevelMap, sender: &Sender, key: &str, old: Option<i64>, new: Option<i64>) -> bool
-    ensures { result ≡ passes map sender.now.level sender.now.id.now key.now old new }
+/// Whether a change of an entry of a map of levels exceeds the sender's level.
+fn exceeds(map: LevelMap, sender: &Sender, key: &str, old: Option<i64>, new: Option<i64>) -> bool
+    ensures { result ≡ exceeds map sender.now.level sender.now.id.now key.now old new }
 {
     match map {
-        LevelMap::Events | LevelMap::Notifications => passes_level(sender.level, old, new),
-        LevelMap::Users => passes_user_level(sender.level, key == sender.id.as_str(), old, new),
+        LevelMap::Events | LevelMap::Notifications => exceeds_level(sender.level, old, new),
+        LevelMap::Users => exceeds_user_level(sender.level, key == sender.id.as_str(), old, new),
     }
 }
 
 /// Whether a level at one of these keys is changed beyond the sender's level.
 fn any_level(keys: &[&str], sender: &Sender, old: &Json, new: &Json) -> bool
-    ensures { result ≡ list_any (λ key. passes_level sender.now.level (int_at key.now old.now) (int_at key.now new.now)) keys.now }
+    ensures { result ≡ list_any (λ key. exceeds_level sender.now.level (int_at key.now old.now) (int_at key.now new.now)) keys.now }
 {
-    keys.iter().any(|key| passes_level(sender.level, old.int_at(*key), new.int_at(*key)))
+    keys.iter().any(|key| exceeds_level(sender.level, old.int_at(*key), new.int_at(*key)))
 }
 
 /// Whether an entry of the standing map is changed or removed beyond the sender's level.
@@ -200,11 +200,11 @@ fn any_old_entry(
     entries: &[Member<Json>],
     new: Option<&Json>,
 ) -> bool
-    ensures { result ≡ any_old (passes map sender.now.level sender.now.id.now) (option_map (λ j. j.now) new.entry) entries.now }
+    ensures { result ≡ any_old (exceeds map sender.now.level sender.now.id.now) (option_map (λ j. j.now) new.entry) entries.now }
 {
     entries.iter().any(|entry| {
         let key = entry.key.as_str();
-        passes(map, sender, key, entry.value.as_int(), int_in(new, key))
+        exceeds(map, sender, key, entry.value.as_int(), int_in(new, key))
     })
 }
 
@@ -215,17 +215,17 @@ fn any_new_entry(
     old: Option<&Json>,
     entries: &[Member<Json>],
 ) -> bool
-    ensures { result ≡ any_new (passes map sender.now.level sender.now.id.now) (option_map (λ j. j.now) old.entry) entries.now }
+    ensures { result ≡ any_new (exceeds map sender.now.level sender.now.id.now) (option_map (λ j. j.now) old.entry) entries.now }
 {
     entries.iter().any(|entry| {
         let key = entry.key.as_str();
-        passes(map, sender, key, int_in(old, key), entry.value.as_int())
+        exceeds(map, sender, key, int_in(old, key), entry.value.as_int())
     })
 }
 
 /// Whether some entry of a map of levels is changed beyond the sender's level.
 fn any_entry(map: LevelMap, sender: &Sender, old: &Json, new: &Json) -> bool
-    ensures { result ≡ any_entry (map_key map) (passes map sender.now.level sender.now.id.now) old.now new.now }
+    ensures { result ≡ any_entry (map_key map) (exceeds map sender.now.level sender.now.id.now) old.now new.now }
 {
     let old = old.field(map.key());
     let new = new.field(map.key());
@@ -235,8 +235,8 @@ fn any_entry(map: LevelMap, sender: &Sender, old: &Json, new: &Json) -> bool
 
 /// Whether power levels change the standing ones beyond the sender's level: a level from or to one above the sender's, or
 /// the level of another user that isn't below the sender's.
-pub(crate) fn passes_own_level(sender: &Sender, old: &Json, new: &Json) -> bool
-    ensures { result ≡ passes_own_level sender.now.id.now sender.now.level old.now new.now }
+pub(crate) fn exceeds_own_level(sender: &Sender, old: &Json, new: &Json) -> bool
+    ensures { result ≡ exceeds_own_level sender.now.id.now sender.now.level old.now new.now }
 {
     any_level(SCALARS.as_slice(), sender, old, new)
         || any_entry(LevelMap::Events, sender, old, new)

@@ -1,14 +1,15 @@
 //! What is kept of the events of a room: what the rules ask of them.
-ghost use Rattle.std.specs.Prelude.{◌≡◌, ◌<◌, ◌≤◌, ◌+◌, ℕ, List, [], ◌∷◌, ◌++◌, Some, None, IfOk, OnOk, IsSome, if◌then◌else◌};
+ghost use Rattle.std.specs.Prelude.{◌≡◌, ◌<◌, ◌≤◌, ◌+◌, ℕ, List, [], ◌∷◌, ◌++◌, Some, None, true, IfOk, OnOk, IsSome, if◌then◌else◌};
 ghost use Rattle.std.specs.BTreeMap.{get_by_text};
 ghost use Rattle.std.specs.Str.{bytes_eq};
 ghost use Rattle.mx_json.specs.Fields.{text_at};
 ghost use Rattle.mx_event.specs.Denied.{target};
 ghost use Rattle.mx_event.specs.declared.event.Event.{Event};
-ghost use Rattle.mx_auth.specs.Kept.{change_of, membership_at, next_count, waiting_of, HasRoom, IsKept, IsSet, KeysStay};
+ghost use Rattle.mx_auth.specs.Kept.{change_of, membership_at, next_count, HasPlace, IsKept, IsSet, KeysStay};
+ghost use Rattle.mx_auth.specs.Placing.{is_in, Longer};
 
 use crate::kinds::{CREATE, JOIN_RULES, MEMBER, POWER_LEVELS, target};
-use crate::places::{Place, Places};
+use crate::places::Places;
 use mx_event::Event;
 use mx_ids::{Copied, Memory, Text, UserId};
 use mx_json::Json;
@@ -52,7 +53,7 @@ pub(crate) struct Kept {
     pub(crate) places: Places,
 }
 
-/// What an event sets.
+/// What an event sets, copied before the event is taken in.
 #[derive(Drop)]
 pub(crate) enum Change {
     Nothing,
@@ -60,13 +61,6 @@ pub(crate) enum Change {
     JoinRule(Option<Text>),
     Powers(Json),
     Membership(Option<Text>),
-}
-
-/// What an event sets and who sent it, copied before the event is taken in.
-#[derive(Drop)]
-pub(crate) struct Waiting {
-    pub(crate) change: Change,
-    pub(crate) sender: UserId,
 }
 
 /// A copy of what an event sets.
@@ -96,29 +90,29 @@ fn text_of(alloc: Global, content: &Json, key: &str) -> Result<Option<Text>, Mem
     }
 }
 
-/// Makes room for the membership that a change sets under a key, so that setting it takes no memory.
-fn make_room(
+/// Makes a place for the membership that a change sets under a key, so that setting it takes no memory.
+fn make_place(
     alloc: Global,
     memberships: &mut BTreeMap<String, Option<Text>>,
     key: &str,
     change: &Change,
 ) -> Result<(), Memory>
-    ensures room { OnOk result (HasRoom change.now key.now memberships.new) }
+    ensures place { OnOk result (HasPlace change.now key.now memberships.new) }
     ensures same { (user : List ℕ) → membership_at memberships.new user ≡ membership_at memberships.old user }
     ensures keys { KeysStay memberships.old memberships.new }
 {
     match change {
-        Change::Membership(_) => make_room_at(alloc, memberships, key),
+        Change::Membership(_) => make_place_at(alloc, memberships, key),
         _ => Ok(()),
     }
 }
 
-fn make_room_at(
+fn make_place_at(
     alloc: Global,
     memberships: &mut BTreeMap<String, Option<Text>>,
     key: &str,
 ) -> Result<(), Memory>
-    ensures room { OnOk result (IsSome (get_by_text memberships.new key.now)) }
+    ensures place { OnOk result (IsSome (get_by_text memberships.new key.now)) }
     ensures same { (user : List ℕ) → membership_at memberships.new user ≡ membership_at memberships.old user }
     ensures keys { KeysStay memberships.old memberships.new }
 {
@@ -128,7 +122,7 @@ fn make_room_at(
     Ok(())
 }
 
-/// Sets a membership under a key for which room was made. Takes no memory.
+/// Sets a membership under a key that has a place. Takes no memory.
 fn set_membership(
     memberships: &mut BTreeMap<String, Option<Text>>,
     key: &str,
@@ -160,7 +154,7 @@ impl Kept {
 
     /// Sets what an event with this state key sets. Takes no memory.
     fn set(&mut self, key: &str, change: Change)
-        requires { HasRoom change key.now self.old.memberships }
+        requires { HasPlace change key.now self.old.memberships }
         ensures { IsSet change key.now self.old self.new }
     {
         match change {
@@ -174,38 +168,40 @@ impl Kept {
         }
     }
 
-    /// Makes room for an event, and for `count` places in all, so that what the event sets can be settled without memory.
+    /// Makes a place for what an event sets, and `count` spare places of events, so that the event can be settled without memory.
     /// What is kept is of the same events, also where the answer is `Memory`.
     pub(crate) fn prepare(
         &mut self,
         alloc: Global,
         event: &Event,
         count: usize,
-    ) -> Result<Waiting, Memory>
-        ensures ready { IfOk result (λ w. w ≡ waiting_of event.now) }
-        ensures room { OnOk result (HasRoom (change_of event.now) (target event.now) self.new.memberships) }
+    ) -> Result<Change, Memory>
+        ensures ready { IfOk result (λ c. c ≡ change_of event.now) }
+        ensures place { OnOk result (HasPlace (change_of event.now) (target event.now) self.new.memberships) }
         ensures places { OnOk result (count ≤ self.new.places.spare) }
         ensures kept { (es : List Event) → IsKept self.old es → IsKept self.new es }
         ensures keys { KeysStay self.old.memberships self.new.memberships }
         ensures spare { self.old.places.spare ≤ self.new.places.spare }
+        ensures known { OnOk result (is_in self.new.places.names event.now.sender ≡ true) }
+        ensures names { Longer self.old.places.names self.new.places.names }
     {
         let change = change_of(alloc, event)?;
-        let sender = event.sender.copy(alloc)?;
-        self.places.reserve(count)?;
-        make_room(alloc, &mut self.memberships, target(event), &change)?;
-        Ok(Waiting { change, sender })
+        self.places.reserve(alloc, count, &event.sender)?;
+        make_place(alloc, &mut self.memberships, target(event), &change)?;
+        Ok(change)
     }
 
-    /// Takes in, at a position, an event with this state key of which room was made. Takes no memory.
-    pub(crate) fn settle(&mut self, key: &str, waiting: Waiting, at: u64)
-        requires room { HasRoom waiting.change key.now self.old.memberships }
+    /// Takes in, at a position, an event with this state key and sender that was prepared. Takes no memory.
+    pub(crate) fn settle(&mut self, key: &str, sender: &str, change: Change, at: u64)
+        requires place { HasPlace change key.now self.old.memberships }
         requires places { 0 < self.old.places.spare }
-        ensures kept { (e : Event) (es : List Event) → waiting ≡ waiting_of e → key.now ≡ target e → at ≡ e.id.at → IsKept self.old es → IsKept self.new (es ++ e ∷ []) }
+        requires known { is_in self.old.places.names sender.now ≡ true }
+        ensures kept { (e : Event) (es : List Event) → change ≡ change_of e → key.now ≡ target e → sender.now ≡ e.sender → at ≡ e.id.at → IsKept self.old es → IsKept self.new (es ++ e ∷ []) }
         ensures keys { KeysStay self.old.memberships self.new.memberships }
         ensures spare { self.new.places.spare + 1 ≡ self.old.places.spare }
+        ensures names { self.new.places.names ≡ self.old.places.names }
     {
-        let Waiting { change, sender } = waiting;
-        self.places.put(Place { at, sender });
+        self.places.put(at, sender);
         self.count = self.count.next();
         self.set(key, change);
     }

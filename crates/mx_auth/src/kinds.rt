@@ -4,15 +4,8 @@ ghost use Rattle.mx_event.specs.Kinds.{is_text};
 ghost use Rattle.mx_event.specs.Denied.{gives, is_own, target};
 
 use mx_event::Event;
+pub(crate) use mx_event::event_types::{CREATE, JOIN_RULES, MEMBER, POWER_LEVELS};
 use mx_ids::Text;
-
-pub(crate) const CREATE: &str = "m.room.create";
-
-pub(crate) const JOIN_RULES: &str = "m.room.join_rules";
-
-pub(crate) const MEMBER: &str = "m.room.member";
-
-pub(crate) const POWER_LEVELS: &str = "m.room.power_levels";
 
 /// Whether a text is there, and is this one.
 pub(crate) fn is_text(text: &str, found: Option<&Text>) -> bool

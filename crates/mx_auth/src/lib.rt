@@ -9,6 +9,7 @@ mod levels;
 mod membership_rules;
 mod places;
 mod rules;
+mod senders;
 mod state;
 mod taken;
 

@@ -7,7 +7,7 @@ ghost use Rattle.mx_event.specs.Shown.{names};
 ghost use Rattle.mx_event.specs.declared.event.Event.{Event};
 ghost use Rattle.mx_event.specs.Denied.{breaks_create, breaks_level, breaks_power_change, breaks_power_form, breaks_redaction, breaks_sender, breaks_user_key, is_of_a_user, names_own};
 
-use crate::changes::{Sender, is_well_formed, passes_own_level};
+use crate::changes::{Sender, exceeds_own_level, is_well_formed};
 use crate::kinds::{CREATE, POWER_LEVELS, is_own};
 use crate::levels::{level, needed_level, redact_level};
 use crate::membership_rules::{is_joined, reaches};
@@ -76,7 +76,7 @@ pub(crate) fn breaks_power_change(event: &Event, state: &AuthState) -> bool
                 id: &event.sender,
                 level: level(state, &event.sender),
             };
-            passes_own_level(&sender, standing, &event.content)
+            exceeds_own_level(&sender, standing, &event.content)
         }
         None => false,
     }

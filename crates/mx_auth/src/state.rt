@@ -6,9 +6,8 @@ ghost use Rattle.mx_event.specs.State.{creator, join_rule, membership_of};
 ghost use Rattle.mx_auth.specs.Kept.{has_event, has_sent};
 ghost use Rattle.mx_auth.specs.Standing.{no_standing};
 
-use crate::kept::{Count, Kept, Waiting};
+use crate::kept::{Change, Count, Kept};
 use crate::kinds::target;
-use crate::places::any_by;
 use crate::taken::Taken;
 use mx_event::Event;
 use mx_ids::{Memory, Text, UserId};
@@ -18,16 +17,16 @@ use std::collections::VecDeque;
 use std::marker::Model;
 
 /// The state of a room after its events, as far as the authorization rules read it. Contracts see it as the list of the
-/// events that it took in, and beside it the list of the events that it has room for; of these it holds what the rules ask
+/// events that it took in, and beside it the list of the events that are ready to be taken in; of these it holds what the rules ask
 /// alone.
 #[derive(Drop)]
 pub struct AuthState {
     alloc: Global,
     kept: Kept,
-    /// What is wanted of the events that there is room for, in their order.
-    waiting: VecDeque<Waiting>,
+    /// What the events that are ready set, in their order.
+    waiting: VecDeque<Change>,
     taken: Taken,
-    room: Taken,
+    ready: Taken,
 }
 
 impl Model for AuthState {
@@ -40,9 +39,9 @@ impl Model for AuthState {
 
     ghost use Rattle.mx_auth.specs.Kept.{IsKept, IsWaiting};
 
-    ghost view = { λ s. record { events = s.taken.events; room = s.room.events } };
+    ghost view = { λ s. record { events = s.taken.events; ready = s.ready.events } };
 
-    ghost invariant = { λ s. IsKept s.kept s.taken.events × IsWaiting s.kept s.waiting.items s.room.events };
+    ghost invariant = { λ s. IsKept s.kept s.taken.events × IsWaiting s.kept s.waiting.items s.ready.events };
 }
 
 impl AuthState {
@@ -55,7 +54,7 @@ impl AuthState {
             kept: Kept::new(alloc),
             waiting: VecDeque::new(alloc),
             taken: Taken::new(),
-            room: Taken::new(),
+            ready: Taken::new(),
         }
     }
 
@@ -67,43 +66,45 @@ impl AuthState {
         ensures same { OnErr result (self.new ≡ self.old) }
     {
         let count = self.waiting.len() + 1;
-        let waiting = self.kept.prepare(self.alloc, event, count)?;
-        self.kept.settle(target(event), waiting, event.id.at);
+        let change = self.kept.prepare(self.alloc, event, count)?;
+        self.kept
+            .settle(target(event), event.sender.as_str(), change, event.id.at);
         self.taken = Taken::with(&self.taken, event);
         Ok(())
     }
 
-    /// Makes room for an event, after those that there is room for already, so that `take_ready` can take it in. `Memory`
+    /// Readies an event, after those that are ready already: `take_ready` can then take it in without memory. `Memory`
     /// where an allocation that a copy of what it sets needs is refused: the state is then as it was.
-    pub fn make_room(&mut self, event: &Event) -> Result<(), Memory>
-        ensures ok { OnOk result (self.new ≡ record self.old { room = self.old.room ++ event.now ∷ [] }) }
+    pub fn make_ready(&mut self, event: &Event) -> Result<(), Memory>
+        ensures ok { OnOk result (self.new ≡ record self.old { ready = self.old.ready ++ event.now ∷ [] }) }
         ensures same { OnErr result (self.new ≡ self.old) }
     {
         let count = self.waiting.len() + 1;
-        let waiting = self.kept.prepare(self.alloc, event, count)?;
-        self.waiting.push_back(waiting)?;
-        self.room = Taken::with(&self.room, event);
+        let change = self.kept.prepare(self.alloc, event, count)?;
+        self.waiting.push_back(change)?;
+        self.ready = Taken::with(&self.ready, event);
         Ok(())
     }
 
-    /// Takes in the first of the events that there is room for, as it stands at the position `at` in a block that begins at
+    /// Takes in the first of the events that are ready, as it stands at the position `at` in a block that begins at
     /// `first`. Takes no memory.
     pub fn take_ready(&mut self, event: &Event, first: u64, at: u64)
-        requires { self.old.room ≡ event.now ∷ drop 1 self.old.room }
-        ensures { self.new ≡ record { events = self.old.events ++ placed_event event.now first at ∷ []; room = drop 1 self.old.room } }
+        requires { self.old.ready ≡ event.now ∷ drop 1 self.old.ready }
+        ensures { self.new ≡ record { events = self.old.events ++ placed_event event.now first at ∷ []; ready = drop 1 self.old.ready } }
     {
-        let waiting = self.waiting.pop_front().unwrap();
-        self.kept.settle(target(event), waiting, at);
+        let change = self.waiting.pop_front().unwrap();
+        self.kept
+            .settle(target(event), event.sender.as_str(), change, at);
         self.taken = Taken::placed(&self.taken, event, &first, &at);
-        self.room = Taken::rest(&self.room);
+        self.ready = Taken::rest(&self.ready);
     }
 
-    /// Drops the room that was made. Takes no memory.
-    pub fn drop_room(&mut self)
-        ensures { self.new ≡ record self.old { room = [] } }
+    /// Drops the events that are ready. Takes no memory.
+    pub fn drop_ready(&mut self)
+        ensures { self.new ≡ record self.old { ready = [] } }
     {
         self.waiting.clear();
-        self.room = Taken::new();
+        self.ready = Taken::new();
     }
 
     /// The membership of a user (Client-Server API, m.room.member), or `None` where no member event of the user stands, or
@@ -162,13 +163,13 @@ impl AuthState {
     pub(crate) fn has_sent(&self, user: &UserId, at: u64) -> bool
         ensures { result ≡ has_sent user.now at self.now.events }
     {
-        any_by(self.kept.places.at(at), user)
+        self.kept.places.has_by(at, user.as_str())
     }
 
     /// Whether an event is at a position.
     pub(crate) fn has_event(&self, at: u64) -> bool
         ensures { result ≡ has_event at self.now.events }
     {
-        !self.kept.places.at(at).is_empty()
+        self.kept.places.has(at)
     }
 }

@@ -77,6 +77,13 @@ removes_both xs ys a b c first second id =
     second id ∙ ap (λ t. t && not (is_in ys id)) (first id) ∙ removed_both (has a id) (is_in xs id) (is_in ys id)
     ∙ ap (λ t. has a id && not t) (sym (list_any-append (λ x. bytes_eq x id) xs ys))
 
+-- nothing is removed from a set without keys
+pub removes_empty : (us : List (List ℕ)) (s : Ids) → length s.keys ≡ 0 → Removes us s s
+removes_empty us s none id = inside s.keys none where
+  inside : (ks : List (Bor (List ℕ))) → length ks ≡ 0 → list_any (is_at (λ (k : Bor (List ℕ)). slice_cmp nat_cmp id k.now)) ks ≡ (list_any (is_at (λ (k : Bor (List ℕ)). slice_cmp nat_cmp id k.now)) ks && not (is_in us id))
+  inside [] none = refl
+  inside (k ∷ ks) none = absurd (omega (arith, none))
+
 same : (id : List ℕ) → bytes_eq id id ≡ true
 same id = (bytes_eq-Decides id id).1 refl
 

@@ -13,6 +13,7 @@ use Rattle.mx_event.specs.declared.draft.Draft.{Draft}
 use Rattle.mx_create.specs.Bodies.{listed, invited}
 use Rattle.mx_create.specs.Contents.{single, create_content, membership_content, power_content, invite_content}
 use Rattle.mx_create.specs.Presets.{preset_of, join_rule_of, history_visibility_of, guest_access_of}
+use Rattle.mx_create.specs.declared.creation.Creator.{Creator}
 use Rattle.mx_create.specs.declared.fault.CreateFault.{CreateFault}
 use Rattle.mx_create.specs.declared.fault.CreateFault.TheVariants as faults
 use Rattle.mx_create.specs.declared.preset.Preset.{Preset}
@@ -21,6 +22,9 @@ use Rattle.mx_create.specs.declared.preset.Preset.{Preset}
 pub record Creating : Type 0 where
   pub creator : List ℕ
   pub ts : ℕ
+
+abbrev pub creating : Creator → Creating
+creating by = record { creator = by.id.now; ts = by.ts }
 
 -- a state event of the creator, whose room has no position yet
 abbrev pub draft : Creating → List ℕ → List ℕ → Json → Draft

@@ -14,12 +14,12 @@ use mx_room::RoomBook;
 use std::alloc::Global;
 
 /// The events that a block of drafts puts into a new room of the book's writer, 1 to 256, in their order and without
-/// positions yet. The book then has room for them: `RoomBook::take_in` creates the room.
+/// positions yet. They are then ready in the book: `RoomBook::take_in` creates the room.
 ///
 /// The first fault that holds is given: `TooLarge` where one of the events is larger than 65,536 bytes; `State` where one
-/// isn't allowed after those before it (`mx_auth::allowed`), with the rule that refuses the first such one. `Memory` comes
-/// only where the allocator refuses. Whatever the answer, the rooms are as they were; room that the book had for another
-/// block may be gone.
+/// isn't allowed after those before it (`mx_auth::allowed`), with the rule that refuses the first such one. `Memory` is
+/// want of memory, and may come in place of any answer. Whatever the answer, the rooms are as they were; another block that
+/// was ready may be gone.
 pub fn admit_block(
     alloc: Global,
     book: &mut RoomBook,

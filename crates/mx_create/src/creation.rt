@@ -3,7 +3,7 @@ ghost use Rattle.std.specs.Prelude.{◌≡◌, ◌⊎◌, ◌++◌, true, ◌≤
 ghost use Rattle.std.specs.Option.{option_to_list};
 ghost use Rattle.mx_json.specs.Fields.{field, text_at, text_of};
 ghost use Rattle.mx_create.specs.Admitted.{IsBlock, is_block};
-ghost use Rattle.mx_create.specs.Blocks.{Creating, block_of, draft, drafts_of, first_drafts, initial, invitation, is_eleven, named, rules};
+ghost use Rattle.mx_create.specs.Blocks.{Creating, block_of, creating, draft, drafts_of, first_drafts, initial, invitation, is_eleven, named, rules};
 ghost use Rattle.mx_create.specs.Bodies.{invited, is_create_body, is_text_value, listed};
 ghost use Rattle.mx_create.specs.Contents.{single};
 ghost use Rattle.mx_json.specs.declared.value.Json.TheVariants as json;
@@ -19,12 +19,22 @@ use crate::fault::CreateFault;
 use crate::invited::are_known;
 use crate::preset::Preset;
 use mx_event::Draft;
+use mx_event::event_types::{
+    CREATE, GUEST_ACCESS, HISTORY_VISIBILITY, JOIN_RULES, MEMBER, NAME, POWER_LEVELS, TOPIC,
+};
 use mx_ids::{Copied, Memory, RoomId, Seq, UserId, Users};
 use mx_json::Json;
 use std::alloc::Global;
 
 /// The most events that a block has.
 const MOST_EVENTS: usize = 256;
+
+/// Who creates a room, and when, in milliseconds since 1970.
+#[derive(Clone, Copy)]
+struct Creator<'a> {
+    id: &'a UserId,
+    ts: u64,
+}
 
 /// The events by which a room is created (Client-Server API, `POST /createRoom`), in the order in
 /// which they stand in the room: create, the creator's join, power levels, join rules, history
@@ -34,7 +44,7 @@ const MOST_EVENTS: usize = 256;
 /// The first fault that holds is given: `Version` where `room_version` is there and isn't `"11"`;
 /// `Preset` where `preset` is there and names none; `NoUser` where `invite` or a member event of
 /// `initial_state` invites one who isn't among the users; `TooMany` where there are more than 256
-/// events. `Memory` comes only where the allocator refuses.
+/// events. `Memory` is want of memory, and may come in place of any answer.
 ///
 /// The events are 1 to 256 state events of a room without a writer and a position yet, as `admit_block` wants them.
 pub fn block(
@@ -62,7 +72,8 @@ pub fn block(
     if event_count(ask) > MOST_EVENTS {
         return Err(CreateFault::TooMany);
     }
-    Ok(drafts(alloc, preset, ask, creator, ts)?)
+    let by = Creator { id: creator, ts };
+    Ok(drafts(alloc, preset, ask, &by)?)
 }
 
 /// Whether the room version is 11, if it is there.
@@ -104,57 +115,34 @@ fn invited_count(users: &[Json]) -> usize
 }
 
 /// The events in their order.
-fn drafts(
-    alloc: Global,
-    preset: Preset,
-    ask: &Json,
-    creator: &UserId,
-    ts: u64,
-) -> Result<Seq<Draft>, Memory>
-    ensures { IfOk result (λ all. all ≡ drafts_of (record { creator = creator.now; ts = ts }) preset ask.now) }
+fn drafts(alloc: Global, preset: Preset, ask: &Json, by: &Creator) -> Result<Seq<Draft>, Memory>
+    ensures { IfOk result (λ all. all ≡ drafts_of (creating by.now) preset ask.now) }
 {
-    let mut all = first_drafts(alloc, preset, ask, creator, ts)?;
-    push_initial(alloc, &mut all, ask, creator, ts)?;
-    push_named(alloc, &mut all, "m.room.name", "name", ask, creator, ts)?;
-    push_named(alloc, &mut all, "m.room.topic", "topic", ask, creator, ts)?;
-    push_invitations(alloc, &mut all, ask, creator, ts)?;
+    let mut all = first_drafts(alloc, preset, ask, by)?;
+    push_initial(alloc, &mut all, ask, by)?;
+    push_named(alloc, &mut all, NAME, "name", ask, by)?;
+    push_named(alloc, &mut all, TOPIC, "topic", ask, by)?;
+    push_invitations(alloc, &mut all, ask, by)?;
     Ok(Seq::from_vec(all))
 }
 
-/// The events with which each room begins, in a list with room for all that are asked for.
+/// The events with which each room begins, in a list that holds all that are asked for without growing.
 fn first_drafts(
     alloc: Global,
     preset: Preset,
     ask: &Json,
-    creator: &UserId,
-    ts: u64,
+    by: &Creator,
 ) -> Result<Vec<Draft>, Memory>
-    ensures { IfOk result (λ all. all.items ≡ first_drafts (record { creator = creator.now; ts = ts }) preset ask.now) }
+    ensures { IfOk result (λ all. all.items ≡ first_drafts (creating by.now) preset ask.now) }
 {
     let mut all = Vec::with_capacity(alloc, event_count(ask))?;
     let created = create_content(alloc, ask)?;
-    push(alloc, &mut all, creator, ts, "m.room.create", "", created)?;
+    push(alloc, &mut all, by, CREATE, "", created)?;
     let joined = membership_content(alloc, "join")?;
-    push(
-        alloc,
-        &mut all,
-        creator,
-        ts,
-        "m.room.member",
-        creator.as_str(),
-        joined,
-    )?;
-    let powers = power_content(alloc, preset, creator, ask)?;
-    push(
-        alloc,
-        &mut all,
-        creator,
-        ts,
-        "m.room.power_levels",
-        "",
-        powers,
-    )?;
-    push_rules(alloc, &mut all, preset, creator, ts)?;
+    push(alloc, &mut all, by, MEMBER, by.id.as_str(), joined)?;
+    let powers = power_content(alloc, preset, by.id, ask)?;
+    push(alloc, &mut all, by, POWER_LEVELS, "", powers)?;
+    push_rules(alloc, &mut all, preset, by)?;
     Ok(all)
 }
 
@@ -163,63 +151,39 @@ fn push_rules(
     alloc: Global,
     all: &mut Vec<Draft>,
     preset: Preset,
-    creator: &UserId,
-    ts: u64,
+    by: &Creator,
 ) -> Result<(), Memory>
-    ensures { OnOk result (all.new.items ≡ all.old.items ++ rules (record { creator = creator.now; ts = ts }) preset) }
+    ensures { OnOk result (all.new.items ≡ all.old.items ++ rules (creating by.now) preset) }
 {
     let rule = preset.join_rule();
-    push_text(
-        alloc,
-        all,
-        creator,
-        ts,
-        "m.room.join_rules",
-        "join_rule",
-        rule,
-    )?;
+    push_text(alloc, all, by, JOIN_RULES, "join_rule", rule)?;
     let shown = preset.history_visibility();
     push_text(
         alloc,
         all,
-        creator,
-        ts,
-        "m.room.history_visibility",
+        by,
+        HISTORY_VISIBILITY,
         "history_visibility",
         shown,
     )?;
     let access = preset.guest_access();
-    push_text(
-        alloc,
-        all,
-        creator,
-        ts,
-        "m.room.guest_access",
-        "guest_access",
-        access,
-    )?;
+    push_text(alloc, all, by, GUEST_ACCESS, "guest_access", access)?;
     Ok(())
 }
 
 /// Puts the entries of `initial_state` at the end.
-fn push_initial(
-    alloc: Global,
-    all: &mut Vec<Draft>,
-    ask: &Json,
-    creator: &UserId,
-    ts: u64,
-) -> Result<(), Memory>
-    ensures { OnOk result (all.new.items ≡ all.old.items ++ map (initial (record { creator = creator.now; ts = ts })) (listed (codes "initial_state") ask.now)) }
+fn push_initial(alloc: Global, all: &mut Vec<Draft>, ask: &Json, by: &Creator) -> Result<(), Memory>
+    ensures { OnOk result (all.new.items ≡ all.old.items ++ map (initial (creating by.now)) (listed (codes "initial_state") ask.now)) }
 {
     'entries: for entry in listed(ask, "initial_state") {
-        all.push(initial(alloc, entry, creator, ts)?)?;
+        all.push(initial(alloc, entry, by)?)?;
     }
     Ok(())
 }
 
 /// The event that an entry of `initial_state` asks for.
-fn initial(alloc: Global, entry: &Json, creator: &UserId, ts: u64) -> Result<Draft, Memory>
-    ensures { IfOk result (λ d. d ≡ initial (record { creator = creator.now; ts = ts }) entry.now) }
+fn initial(alloc: Global, entry: &Json, by: &Creator) -> Result<Draft, Memory>
+    ensures { IfOk result (λ d. d ≡ initial (creating by.now) entry.now) }
 {
     let content = match entry.field("content") {
         Some(content) => content.copy(alloc)?,
@@ -227,7 +191,7 @@ fn initial(alloc: Global, entry: &Json, creator: &UserId, ts: u64) -> Result<Dra
     };
     let kind = text_or_empty(entry, "type");
     let key = text_or_empty(entry, "state_key");
-    draft(alloc, creator, ts, kind, key, content)
+    draft(alloc, by, kind, key, content)
 }
 
 /// Puts the event of a type at the end that a text at a key of the body asks for.
@@ -237,13 +201,12 @@ fn push_named(
     kind: &str,
     key: &str,
     ask: &Json,
-    creator: &UserId,
-    ts: u64,
+    by: &Creator,
 ) -> Result<(), Memory>
-    ensures { OnOk result (all.new.items ≡ all.old.items ++ named (record { creator = creator.now; ts = ts }) kind.now key.now ask.now) }
+    ensures { OnOk result (all.new.items ≡ all.old.items ++ named (creating by.now) kind.now key.now ask.now) }
 {
     match ask.text_at(key) {
-        Some(text) => push_text(alloc, all, creator, ts, kind, key, text.as_str()),
+        Some(text) => push_text(alloc, all, by, kind, key, text.as_str()),
         None => Ok(()),
     }
 }
@@ -253,13 +216,12 @@ fn push_invitations(
     alloc: Global,
     all: &mut Vec<Draft>,
     ask: &Json,
-    creator: &UserId,
-    ts: u64,
+    by: &Creator,
 ) -> Result<(), Memory>
-    ensures { OnOk result (all.new.items ≡ all.old.items ++ map (invitation (record { creator = creator.now; ts = ts }) ask.now) (invited ask.now)) }
+    ensures { OnOk result (all.new.items ≡ all.old.items ++ map (invitation (creating by.now) ask.now) (invited ask.now)) }
 {
     'users: for user in listed(ask, "invite") {
-        push_invitation(alloc, all, user, ask, creator, ts)?;
+        push_invitation(alloc, all, user, ask, by)?;
     }
     Ok(())
 }
@@ -270,22 +232,13 @@ fn push_invitation(
     all: &mut Vec<Draft>,
     user: &Json,
     ask: &Json,
-    creator: &UserId,
-    ts: u64,
+    by: &Creator,
 ) -> Result<(), Memory>
-    ensures { OnOk result (all.new.items ≡ all.old.items ++ map (invitation (record { creator = creator.now; ts = ts }) ask.now) (option_to_list (text_of user.now))) }
+    ensures { OnOk result (all.new.items ≡ all.old.items ++ map (invitation (creating by.now) ask.now) (option_to_list (text_of user.now))) }
 {
     if let Some(user) = user.as_text() {
         let content = invite_content(alloc, ask)?;
-        push(
-            alloc,
-            all,
-            creator,
-            ts,
-            "m.room.member",
-            user.as_str(),
-            content,
-        )?;
+        push(alloc, all, by, MEMBER, user.as_str(), content)?;
     }
     Ok(())
 }
@@ -294,52 +247,43 @@ fn push_invitation(
 fn push_text(
     alloc: Global,
     all: &mut Vec<Draft>,
-    creator: &UserId,
-    ts: u64,
+    by: &Creator,
     kind: &str,
     key: &str,
     value: &str,
 ) -> Result<(), Memory>
-    ensures { OnOk result (all.new.items ≡ all.old.items ++ draft (record { creator = creator.now; ts = ts }) kind.now [] (single key.now (json.Text value.now)) ∷ []) }
+    ensures { OnOk result (all.new.items ≡ all.old.items ++ draft (creating by.now) kind.now [] (single key.now (json.Text value.now)) ∷ []) }
 {
     let content = text_content(alloc, key, value)?;
-    push(alloc, all, creator, ts, kind, "", content)
+    push(alloc, all, by, kind, "", content)
 }
 
 /// Puts a state event at the end.
 fn push(
     alloc: Global,
     all: &mut Vec<Draft>,
-    creator: &UserId,
-    ts: u64,
+    by: &Creator,
     kind: &str,
     key: &str,
     content: Json,
 ) -> Result<(), Memory>
-    ensures { OnOk result (all.new.items ≡ all.old.items ++ draft (record { creator = creator.now; ts = ts }) kind.now key.now content ∷ []) }
+    ensures { OnOk result (all.new.items ≡ all.old.items ++ draft (creating by.now) kind.now key.now content ∷ []) }
 {
-    all.push(draft(alloc, creator, ts, kind, key, content)?)?;
+    all.push(draft(alloc, by, kind, key, content)?)?;
     Ok(())
 }
 
 /// A state event of the creator, whose room has no position yet.
-fn draft(
-    alloc: Global,
-    creator: &UserId,
-    ts: u64,
-    kind: &str,
-    key: &str,
-    content: Json,
-) -> Result<Draft, Memory>
-    ensures { IfOk result (λ d. d ≡ draft (record { creator = creator.now; ts = ts }) kind.now key.now content) }
+fn draft(alloc: Global, by: &Creator, kind: &str, key: &str, content: Json) -> Result<Draft, Memory>
+    ensures { IfOk result (λ d. d ≡ draft (creating by.now) kind.now key.now content) }
 {
     Ok(Draft {
         room: RoomId { writer: 0, at: 0 },
         kind: text(alloc, kind)?,
         state_key: Some(text(alloc, key)?),
-        sender: creator.copy(alloc)?,
+        sender: by.id.copy(alloc)?,
         content,
-        ts,
+        ts: by.ts,
         txn: None,
     })
 }

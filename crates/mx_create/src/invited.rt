@@ -8,14 +8,15 @@ ghost use Rattle.mx_create.specs.Bodies.{invited, listed};
 ghost use Rattle.mx_create.specs.Strangers.{Adds, Removes, invited_by};
 
 use crate::body::{is_text_at, listed, text_or_empty};
+use mx_event::event_types::MEMBER;
 use mx_ids::{Memory, UserId, Users};
 use mx_json::Json;
 use std::alloc::Global;
 use std::collections::BTreeSet;
 
 /// Whether all whom a body of `POST /createRoom` invites, by `invite` or by a member event of
-/// `initial_state`, are users of the server. Each user and each invitation costs a look-up among
-/// those who are invited.
+/// `initial_state`, are users of the server. Each invitation costs a look-up among those who are
+/// invited, and so does each user where someone is.
 pub(crate) fn are_known<'a>(alloc: Global, users: &'a Users, ask: &'a Json) -> Result<bool, Memory>
     ensures { IfOk result (λ known. known ≡ are_known users.now ask.now) }
 {
@@ -68,7 +69,7 @@ fn invited_by(entry: &Json) -> Option<&str>
 fn invites(entry: &Json) -> bool
     ensures { result ≡ invites entry.now }
 {
-    is_text_at(entry, "type", "m.room.member")
+    is_text_at(entry, "type", MEMBER)
         && match entry.field("content") {
             Some(content) => is_text_at(content, "membership", "invite"),
             None => false,
@@ -84,9 +85,13 @@ fn add<'a>(strangers: &mut BTreeSet<&'a str>, user: Option<&'a str>) -> Result<(
     Ok(())
 }
 
+/// Takes users out of those who are invited. The users are walked only where someone is.
 fn remove<'a>(strangers: &mut BTreeSet<&'a str>, users: &'a [UserId])
     ensures { Removes users.now strangers.old strangers.new }
 {
+    if strangers.is_empty() {
+        return;
+    }
     'users: for user in users {
         strangers.remove(&user.as_str());
     }

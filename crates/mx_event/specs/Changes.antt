@@ -52,12 +52,12 @@ differ (Some z) None = true
 differ (Some y) (Some z) = not (int_eq y z)
 
 -- a change of a level from or to one above the sender's
-abbrev pub passes_level : ℤ → Option ℤ → Option ℤ → Bool
-passes_level level old new = differ old new && (is_above level old || is_above level new)
+abbrev pub exceeds_level : ℤ → Option ℤ → Option ℤ → Bool
+exceeds_level level old new = differ old new && (is_above level old || is_above level new)
 
 -- a change of a user's level: another user's must have been below the sender's
-abbrev pub passes_user_level : ℤ → Bool → Option ℤ → Option ℤ → Bool
-passes_user_level level own old new = differ old new && ((not own && is_at_least level old) || is_above level new)
+abbrev pub exceeds_user_level : ℤ → Bool → Option ℤ → Option ℤ → Bool
+exceeds_user_level level own old new = differ old new && ((not own && is_at_least level old) || is_above level new)
 
 -- the keys of a map of levels
 abbrev pub map_keys : List ℕ → Json → List (List ℕ)
@@ -68,9 +68,9 @@ abbrev pub any_entry : List ℕ → (List ℕ → Option ℤ → Option ℤ → 
 any_entry name test old new = list_any (λ key. test key (entry_at name key old) (entry_at name key new)) (map_keys name old ++ map_keys name new)
 
 -- a change of the standing levels beyond the sender's level
-abbrev pub passes_own_level : List ℕ → ℤ → Json → Json → Bool
-passes_own_level sender level old new =
-    list_any (λ key. passes_level level (int_at key old) (int_at key new)) scalars
-    || (any_entry (codes "events") (λ key. passes_level level) old new
-    || (any_entry (codes "notifications") (λ key. passes_level level) old new
-    || any_entry (codes "users") (λ key. passes_user_level level (bytes_eq key sender)) old new))
+abbrev pub exceeds_own_level : List ℕ → ℤ → Json → Json → Bool
+exceeds_own_level sender level old new =
+    list_any (λ key. exceeds_level level (int_at key old) (int_at key new)) scalars
+    || (any_entry (codes "events") (λ key. exceeds_level level) old new
+    || (any_entry (codes "notifications") (λ key. exceeds_level level) old new
+    || any_entry (codes "users") (λ key. exceeds_user_level level (bytes_eq key sender)) old new))

@@ -9,7 +9,7 @@ use Rattle.mx_event.specs.Kinds.{create_type, member_type, power_type, is_of, is
 use Rattle.mx_event.specs.Shown.{names}
 use Rattle.mx_event.specs.State.{membership_in, membership_of, is_joined, is_invited, is_banned, creator, join_rule}
 use Rattle.mx_event.specs.Levels.{powers, level_of, invite_level, kick_level, ban_level, redact_level, needed_level}
-use Rattle.mx_event.specs.Changes.{is_well_formed, passes_own_level}
+use Rattle.mx_event.specs.Changes.{is_well_formed, exceeds_own_level}
 use Rattle.mx_event.specs.declared.event.Event.{Event}
 
 -- whom a member event is about: its state key
@@ -108,7 +108,7 @@ breaks_power_form v es = is_of power_type v && not (is_well_formed v.content)
 
 abbrev pub changes_beyond : Event → ℤ → Option Json → Bool
 changes_beyond v level None = false
-changes_beyond v level (Some standing) = passes_own_level v.sender level standing v.content
+changes_beyond v level (Some standing) = exceeds_own_level v.sender level standing v.content
 
 -- 11: power levels that change the standing ones beyond the sender's level
 abbrev pub breaks_power_change : Event → List Event → Bool

@@ -4,6 +4,7 @@ ghost use Rattle.mx_event.specs.Forms.{redacts_of};
 ghost use Rattle.mx_event.specs.Kinds.{has_key, is_of, is_redaction};
 ghost use Rattle.mx_event.specs.Shown.{named_id};
 
+use crate::event_types::REDACTION;
 use mx_ids::{EventId, RoomId, Seq, Text, UserId, read_event_id};
 use mx_json::Json;
 
@@ -65,7 +66,7 @@ impl Event {
     pub fn is_redaction(&self) -> bool
         ensures { result ≡ is_redaction self.now }
     {
-        self.kind.as_str() == "m.room.redaction" && self.state_key.is_none()
+        self.kind.as_str() == REDACTION && self.state_key.is_none()
     }
 
     /// What a redaction has at the key `redacts` of its content: in a well-formed one the id of the event

@@ -5,6 +5,7 @@
 mod copied;
 mod draft;
 mod event;
+pub mod event_types;
 mod forms;
 mod laws;
 mod placed;

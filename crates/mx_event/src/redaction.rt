@@ -10,6 +10,7 @@ ghost use Rattle.mx_event.specs.Kinds.{member_type, join_rules_type, power_type}
 ghost use Rattle.mx_event.specs.Redaction.{redacted, redacted_content, kept_member, is_kept, is_invite_of_third_party};
 
 use crate::event::Event;
+use crate::event_types::{CREATE, HISTORY_VISIBILITY, JOIN_RULES, MEMBER, POWER_LEVELS, REDACTION};
 use mx_ids::{Copied, Memory, Text};
 use mx_json::{Json, Member, Members};
 use std::alloc::Global;
@@ -36,7 +37,7 @@ pub fn redact(alloc: Global, event: &Event) -> Result<Event, Memory>
 fn redacted_content(alloc: Global, kind: &str, content: &Json) -> Result<Json, Memory>
     ensures { IfOk result (λ c. c ≡ redacted_content kind.now content.now) }
 {
-    if kind == "m.room.create" {
+    if kind == CREATE {
         return content.copy(alloc);
     }
     match content.as_object() {
@@ -88,7 +89,7 @@ fn kept_value(alloc: Global, kind: &str, member: &Member<Json>) -> Result<Option
 fn is_invite_of_third_party(kind: &str, key: &str) -> bool
     ensures { result ≡ is_invite_of_third_party kind.now key.now }
 {
-    kind == "m.room.member" && key == "third_party_invite"
+    kind == MEMBER && key == "third_party_invite"
 }
 
 /// Whether a member of the content is kept whole.
@@ -96,11 +97,11 @@ fn is_kept(kind: &str, key: &str) -> bool
     ensures { result ≡ is_kept kind.now key.now }
 {
     match kind {
-        "m.room.member" => is_kept_of_member(key),
-        "m.room.join_rules" => is_kept_of_join_rules(key),
-        "m.room.power_levels" => is_kept_of_power_levels(key),
-        "m.room.history_visibility" => key == "history_visibility",
-        "m.room.redaction" => key == "redacts",
+        MEMBER => is_kept_of_member(key),
+        JOIN_RULES => is_kept_of_join_rules(key),
+        POWER_LEVELS => is_kept_of_power_levels(key),
+        HISTORY_VISIBILITY => key == "history_visibility",
+        REDACTION => key == "redacts",
         _ => false,
     }
 }

@@ -1,1 +1,1 @@
-mod Sames
+pub mod Sames

@@ -17,6 +17,9 @@ use Rattle.mx_account.specs.Values.{value_at}
 use Rattle.mx_account.specs.declared.entry.Entry.{Entry}
 use Rattle.mx_account.specs.declared.entry.Entry.TheVariants as entry
 use Rattle.mx_view.proofs.Orders.{between_taken}
+use Rattle.mx_filter.specs.Passes as filters
+use Rattle.mx_filter.specs.declared.parts.DataPart.TheVariants as kinds
+use Rattle.mx_filter.specs.declared.parts.Selection.{Selection}
 use Rattle.mx_fold.specs.Servers.{Server}
 use Rattle.mx_account.specs.Entries.{kind_of}
 use Rattle.mx_fold.specs.Accounts.{set_between, defaults_of, account_sent, content_at, account_at}
@@ -45,7 +48,7 @@ data_is : (user kind : List ℕ) (e : Entry) → is_data_of user None kind e ≡
 data_is user kind (entry.Data own_user room own_kind content at) = refl
 data_is user kind (entry.Filter own_user id filter at) = refl
 
-module _ {V D F P : Type 0} (w : Server V D F P) (user : List ℕ) (f : F) (kind : List ℕ) where
+module _ {V D : Type 0} (w : Server V D) (user : List ℕ) (f : Selection) (kind : List ℕ) where
   abbrev last_content : List Entry → ℕ → ℕ → Option Json
   last_content entries low high = option_map content_of (last_of (λ (e : Entry). bytes_eq (kind_of e) kind) (between position_of low high (filter (is_of user None) entries)))
 
@@ -62,26 +65,26 @@ module _ {V D F P : Type 0} (w : Server V D F P) (user : List ℕ) (f : F) (kind
       ∙ ap (last_of has) (filter-swap (is_of user None) (λ (e : Entry). nat_lt 0 (position_of e) && nat_le (position_of e) high) entries))
 
   kept : (o : Option Entry) → ((e : Entry) → ◌≡◌ {A = Option Entry} o (Some e) → bytes_eq (kind_of e) kind ≡ true)
-      → option_map (λ (p : List ℕ × Json). p.1) (option_map (λ (e : Entry). (kind_of e, content_of e)) (keep_if (λ (e : Entry). w.passes_type f (kind_of e)) o))
-      ≡ cond (w.passes_type f kind) (option_map content_of o) None
-  kept None h = none (w.passes_type f kind) where
+      → option_map (λ (p : List ℕ × Json). p.1) (option_map (λ (e : Entry). (kind_of e, content_of e)) (keep_if (λ (e : Entry). filters.passes_type f kinds.Account (kind_of e)) o))
+      ≡ cond (filters.passes_type f kinds.Account kind) (option_map content_of o) None
+  kept None h = none (filters.passes_type f kinds.Account kind) where
     none : (b : Bool) → ◌≡◌ {A = Option Json} None (cond b None None)
     none true = refl
     none false = refl
   kept (Some e) h =
       let is = same_text (kind_of e) kind (h e refl) in
-      (λ i. option_map (λ (p : List ℕ × Json). p.1) (option_map (λ (e : Entry). (kind_of e, content_of e)) (cond (w.passes_type f (is i)) (Some e) None))) ∙ by (w.passes_type f kind) where
+      (λ i. option_map (λ (p : List ℕ × Json). p.1) (option_map (λ (e : Entry). (kind_of e, content_of e)) (cond (filters.passes_type f kinds.Account (is i)) (Some e) None))) ∙ by (filters.passes_type f kinds.Account kind) where
         by : (b : Bool) → option_map (λ (p : List ℕ × Json). p.1) (option_map (λ (e : Entry). (kind_of e, content_of e)) (cond b (Some e) None)) ≡ cond b (Some (content_of e)) None
         by true = refl
         by false = refl
 
   -- what was set in a window has under a type the last content there, if the type passes
-  content_set : (entries : List Entry) (low high : ℕ) → content_at kind (set_between w entries user f low high) ≡ cond (w.passes_type f kind) (last_content entries low high) None
+  content_set : (entries : List Entry) (low high : ℕ) → content_at kind (set_between w entries user f low high) ≡ cond (filters.passes_type f kinds.Account kind) (last_content entries low high) None
   content_set entries low high =
       let es : List Entry = between position_of low high (filter (is_of user None) entries) in
       let has : Entry → Bool = λ e. bytes_eq (kind_of e) kind in
       let same : Entry → Entry → Bool = λ e d. bytes_eq (kind_of d) (kind_of e) in
-      let pick : Entry → Bool = λ e. w.passes_type f (kind_of e) in
+      let pick : Entry → Bool = λ e. filters.passes_type f kinds.Account (kind_of e) in
       let first = last_of-map (λ (p : List ℕ × Json). bytes_eq p.0 kind) (λ (e : Entry). (kind_of e, content_of e)) (filter pick (current same es)) in
       let second = last_of-picked same has (λ e d h. ap (bytes_eq (kind_of d)) (same_text (kind_of e) kind h)) pick es in
       ap (option_map (λ (p : List ℕ × Json). p.1)) (first ∙ ap (option_map (λ (e : Entry). (kind_of e, content_of e))) second)
@@ -102,8 +105,8 @@ module _ {V D F P : Type 0} (w : Server V D F P) (user : List ℕ) (f : F) (kind
   abbrev default : Option Json
   default = content_at kind (defaults_of w user f)
 
-  picture_is : (entries : List Entry) (high : ℕ) → account_at w entries user f high kind ≡ option_or (cond (w.passes_type f kind) (last_content entries 0 high) None) default
-  picture_is entries high = ap (λ o. option_or (cond (w.passes_type f kind) o None) default) (value_is entries high)
+  picture_is : (entries : List Entry) (high : ℕ) → account_at w entries user f high kind ≡ option_or (cond (filters.passes_type f kinds.Account kind) (last_content entries 0 high) None) default
+  picture_is entries high = ap (λ o. option_or (cond (filters.passes_type f kinds.Account kind) o None) default) (value_is entries high)
 
   -- the account data of a first reply
   pub account_new : (entries : List Entry) (high : ℕ) → content_at kind (account_sent w entries user f None high) ≡ account_at w entries user f high kind
@@ -118,7 +121,7 @@ module _ {V D F P : Type 0} (w : Server V D F P) (user : List ℕ) (f : F) (kind
   pub account_more : (entries : List Entry) → stand_from position_of 1 entries ≡ true → (since : SyncToken) (high : ℕ) (held : Option Json) → since.a ≤ high → held ≡ account_at w entries user f since.a kind
       → option_or (content_at kind (account_sent w entries user f (Some since) high)) held ≡ account_at w entries user f high kind
   account_more entries stands since high held up is =
-      let p = w.passes_type f kind in
+      let p = filters.passes_type f kinds.Account kind in
       let es = filter (is_of user None) entries in
       let test : Entry → Bool = λ e. bytes_eq (kind_of e) kind in
       let halves : last_content entries 0 high ≡ option_or (last_content entries since.a high) (last_content entries 0 since.a) =
@@ -131,12 +134,12 @@ module _ {V D F P : Type 0} (w : Server V D F P) (user : List ℕ) (f : F) (kind
       ∙ sym (picture_is entries high)
 
 -- what a reply sends over the lists at its mark
-pub account_at_mark : {V D F P : Type 0} (w : Server V D F P) (entries : List Entry) → stand_from position_of 1 entries ≡ true → (user : List ℕ) (f : F) (since : Option SyncToken) (high : ℕ)
+pub account_at_mark : {V D : Type 0} (w : Server V D) (entries : List Entry) → stand_from position_of 1 entries ≡ true → (user : List ℕ) (f : Selection) (since : Option SyncToken) (high : ℕ)
     → account_sent w (take high entries) user f since high ≡ account_sent w entries user f since high
-account_at_mark {F = F} w entries stands user f since high = by since where
+account_at_mark w entries stands user f since high = by since where
   sent_same : (low : ℕ) → set_between w (take high entries) user f low high ≡ set_between w entries user f low high
   sent_same low =
-      ap (λ es. map (λ (e : Entry). (kind_of e, content_of e)) (filter (λ (e : Entry). w.passes_type f (kind_of e)) (current (λ (e d : Entry). bytes_eq (kind_of d) (kind_of e)) es)))
+      ap (λ es. map (λ (e : Entry). (kind_of e, content_of e)) (filter (λ (e : Entry). filters.passes_type f kinds.Account (kind_of e)) (current (λ (e d : Entry). bytes_eq (kind_of d) (kind_of e)) es)))
       (between_taken position_of (is_of user None) low high high entries stands (omega arith))
 
   by : (since : Option SyncToken) → account_sent w (take high entries) user f since high ≡ account_sent w entries user f since high

@@ -20,11 +20,16 @@ use Rattle.mx_view.specs.Tokens.{tokens, is_before, same_token, next_token}
 use Rattle.mx_event.proofs.Lawfully.{same_is as same_room_is, rooms_are_valid}
 use Rattle.mx_view.proofs.Orders.{before_parts, before_from, before_trans, before_self, are_tokens, same_is}
 use Rattle.mx_view.proofs.Stories.{valid_folds}
+use Rattle.mx_filter.specs.Sieves as sieves
+use Rattle.mx_filter.specs.Passes as filters
+use Rattle.mx_filter.specs.Sieves.{sieve_of}
+use Rattle.mx_filter.specs.declared.parts.Selection.{Selection}
+use Rattle.mx_filter.proofs.Sames.{filters_are, by_type}
 use Rattle.mx_core.proofs.Covering.{front_rises}
 use Rattle.mx_fold.specs.Lists.{Lists, Histories, Counts, AreFewer, AreLawful, no_lists, no_stores, upto, fronts_of, counts_of, lists_of, lists_at, events_in}
-use Rattle.mx_fold.specs.Servers.{Server, IsServer, RestsFold, rest_of, story}
+use Rattle.mx_fold.specs.Servers.{Server, RestsFold, rest_of, story}
 use Rattle.mx_fold.specs.Accounts.{content_at, account_at, account_sent}
-use Rattle.mx_fold.specs.Replies.{SyncAsk, PageAsk, Ask, Syncs, Pages, Else, Replied, Showed, PassedOver, Reply, to_at, asked_gap, is_behind, heroes_in, reply_of, page_asked, sees_room, answer_to}
+use Rattle.mx_fold.specs.Replies.{Extent, sync_in, SyncAsk, PageAsk, Ask, Syncs, Pages, Else, Replied, Showed, PassedOver, Reply, to_at, asked_gap, is_behind, heroes_in, reply_of, page_asked, sees_room, answer_to}
 use Rattle.mx_fold.specs.Clients.{Client, nothing_held, after_reply, with_reply, page_into, after_page, opening_of, with_gap, with_shown, with_said, chain, Agrees}
 use Rattle.mx_fold.specs.Exchanges.{Mark, exchange_at, exchanges, MarksRise, ConnectionsAgree}
 use Rattle.mx_fold.proofs.Readers.{same_told_read, page_read}
@@ -45,7 +50,7 @@ next_behind : (since : Option SyncToken) (fronts : SyncToken) → is_behind sinc
 next_behind None fronts h = tt
 next_behind (Some t) fronts h = h
 
-module _ {V D F P : Type 0} (w : Server V D F P) (server : IsServer w) (h : Histories) (lawful : AreLawful h) (rests : RestsFold w (lists_of h)) (user : List ℕ) (f : F) (folds : w.folds f ≡ true) where
+module _ {V D : Type 0} (w : Server V D) (h : Histories) (lawful : AreLawful h) (rests : RestsFold w (lists_of h)) (user : List ℕ) (f : Selection) (folds : sieves.folds f ≡ true) where
   abbrev final : Lists
   final = lists_of h
 
@@ -53,7 +58,7 @@ module _ {V D F P : Type 0} (w : Server V D F P) (server : IsServer w) (h : Hist
   stories room = story w final user f room
 
   abbrev rooms : Rooms RoomId V D SyncToken
-  rooms = record { sieve = w.sieve f; picked = w.picks f; events = events_in final; rest = rest_of w final user f }
+  rooms = record { sieve = sieve_of w.name f; picked = filters.picks w.name f; events = events_in final; rest = rest_of w final user f }
 
   abbrev nobody : chains.Client RoomId Event Key V SyncToken
   nobody = new_client RoomId Event Key V SyncToken
@@ -79,13 +84,13 @@ module _ {V D F P : Type 0} (w : Server V D F P) (server : IsServer w) (h : Hist
   rooms_agree : (fronts : SyncToken) (c : Client V) → Kept fronts c → chains.Agrees tokens stories (folded c)
   rooms_agree fronts c kept =
       subst (chains.Agrees tokens stories) (sym kept.comes)
-      (valid_folds tokens are_tokens user rooms (record { by_type = server.by_type f folds; valid = (rooms_are_valid h.events lawful.orderly lawful.events).1; rest = rests user f })
+      (valid_folds tokens are_tokens user rooms (record { by_type = by_type w.name f folds; valid = (rooms_are_valid h.events lawful.orderly lawful.events).1; rest = rests user f })
       kept.turns kept.taken)
 
   agrees_from : (fronts : SyncToken) (client : Option (Client V)) → KeptIf fronts client → IfSome client (Agrees w user f final)
   agrees_from fronts None kept = tt
   agrees_from fronts (Some c) kept = record {
-    rooms = λ room. holds_picture w final user f c.token c.front room (c.rooms room) (server.by_type f folds room) ((rooms_are_valid h.events lawful.orderly lawful.events).1 room).ascends (rooms_agree fronts c kept room);
+    rooms = λ room. holds_picture w final user f c.token c.front room (c.rooms room) (by_type w.name f folds room) ((rooms_are_valid h.events lawful.orderly lawful.events).1 room).ascends (rooms_agree fronts c kept room);
     account = kept.account;
   }
 
@@ -101,9 +106,9 @@ module _ {V D F P : Type 0} (w : Server V D F P) (server : IsServer w) (h : Hist
 
     -- ---- a reply
 
-    module _ (since : Option SyncToken) (sync : Sync) (behind : is_behind since (fronts_of here) ≡ true) where
-      abbrev ask : SyncAsk F
-      ask = record { filter = f; since = since; sync = sync }
+    module _ (since : Option SyncToken) (extent : Extent) (behind : is_behind since (fronts_of here) ≡ true) where
+      abbrev ask : SyncAsk
+      ask = record { filter = f; since = since; extent = extent }
 
       abbrev next : SyncToken
       next = next_token since fronts
@@ -114,44 +119,44 @@ module _ {V D F P : Type 0} (w : Server V D F P) (server : IsServer w) (h : Hist
       abbrev reply : Reply V D
       reply = reply_of w here user ask
 
-      told_is : IsBase tokens next.b since next → (room : RoomId) → reply.rooms room ≡ told tokens (stories room) sync (heroes room) next.b since next
+      told_is : IsBase tokens next.b since next → (room : RoomId) → reply.rooms room ≡ told tokens (stories room) (sync_in f extent) (heroes room) next.b since next
       told_is base room =
-          ap (λ l. told tokens (story w l user f room) sync (heroes room) next.b since next) (mark ∙ sym (upto_next final since fronts))
-          ∙ told_at_mark w server final (events_stand h lawful) user f room sync (heroes room) next.b since next (next_behind since fronts behind) base
+          ap (λ l. told tokens (story w l user f room) (sync_in f extent) (heroes room) next.b since next) (mark ∙ sym (upto_next final since fronts))
+          ∙ told_at_mark w final (events_stand h lawful) user f room (sync_in f extent) (heroes room) next.b since next (next_behind since fronts behind) base
 
       taken_in : IsBase tokens next.b since next → (rooms : RoomId → Holding Event Key V) (room : RoomId)
-          → with_told (story w no_lists user f room) sync.after (position tokens since) next.e (reply.rooms room) (rooms room)
-          ≡ with_told (stories room) sync.after (position tokens since) next.e (told tokens (stories room) sync (heroes room) next.b since next) (rooms room)
+          → with_told (story w no_lists user f room) extent.after (position tokens since) next.e (reply.rooms room) (rooms room)
+          ≡ with_told (stories room) extent.after (position tokens since) next.e (told tokens (stories room) (sync_in f extent) (heroes room) next.b since next) (rooms room)
       taken_in base rooms room =
-          same_told_read w user f room no_lists final sync.after (position tokens since) next.e (reply.rooms room) (rooms room)
-          ∙ ap (λ t. with_told (stories room) sync.after (position tokens since) next.e t (rooms room)) (told_is base room)
+          same_told_read w user f room no_lists final extent.after (position tokens since) next.e (reply.rooms room) (rooms room)
+          ∙ ap (λ t. with_told (stories room) extent.after (position tokens since) next.e t (rooms room)) (told_is base room)
 
       account_is : reply.account ≡ account_sent w final.accounts user f since fronts.a
       account_is = ap (λ (l : Lists). account_sent w l.accounts user f since fronts.a) mark ∙ account_at_mark w final.accounts (accounts_stand h lawful) user f since fronts.a
 
-    begins : (sync : Sync) → Kept fronts (after_reply w user f None 0 (nothing_held V) (λ kind. None) sync.after (reply None sync refl))
-    begins sync = record {
-      turns = Synced sync (heroes None sync refl) (next None sync refl) ∷ [];
+    begins : (extent : Extent) → Kept fronts (after_reply w user f None 0 (nothing_held V) (λ kind. None) extent.after (reply None extent refl))
+    begins extent = record {
+      turns = Synced (sync_in f extent) (heroes None extent refl) (next None extent refl) ∷ [];
       taken = (tt, tt);
       comes =
-          let rooms = taken_in None sync refl refl (nothing_held V) in
-          λ i. record { token = Some (next None sync refl); base = fronts.e; front = max 0 fronts.e; rooms = λ room. rooms room i };
+          let rooms = taken_in None extent refl refl (nothing_held V) in
+          λ i. record { token = Some (next None extent refl); base = fronts.e; front = max 0 fronts.e; rooms = λ room. rooms room i };
       based = omega arith;
       reached = next_before None fronts;
-      account = λ kind. option_or-none (content_at kind (reply None sync refl).account) ∙ ap (content_at kind) (account_is None sync refl) ∙ account_new w user f kind final.accounts fronts.a;
+      account = λ kind. option_or-none (content_at kind (reply None extent refl).account) ∙ ap (content_at kind) (account_is None extent refl) ∙ account_new w user f kind final.accounts fronts.a;
     }
 
-    goes_on : (sync : Sync) (c : Client V) (behind : is_behind (Some c.token) fronts ≡ true) → Kept low c
-        → Kept fronts (after_reply w user f (Some c.token) c.front c.rooms c.account sync.after (reply (Some c.token) sync behind))
-    goes_on sync c behind kept =
+    goes_on : (extent : Extent) (c : Client V) (behind : is_behind (Some c.token) fronts ≡ true) → Kept low c
+        → Kept fronts (after_reply w user f (Some c.token) c.front c.rooms c.account extent.after (reply (Some c.token) extent behind))
+    goes_on extent c behind kept =
         let since : Option SyncToken = Some c.token in
-        let ends : SyncToken = next (Some c.token) sync behind in
+        let ends : SyncToken = next (Some c.token) extent behind in
         let parts = before_parts c.token fronts (before_trans c.token low fronts kept.reached up) in
         let rises : c.token.e ≤ fronts.e = parts.0 in
         let reaches : c.token.a ≤ fronts.a = parts.2 in
-        let rooms = taken_in since sync behind kept.based c.rooms in
-        let turn : Turn RoomId Event Key SyncToken = Synced sync (heroes since sync behind) ends in
-        let after : folded (after_reply w user f since c.front c.rooms c.account sync.after (reply since sync behind)) ≡ after_turn tokens stories (folded c) turn =
+        let rooms = taken_in since extent behind kept.based c.rooms in
+        let turn : Turn RoomId Event Key SyncToken = Synced (sync_in f extent) (heroes since extent behind) ends in
+        let after : folded (after_reply w user f since c.front c.rooms c.account extent.after (reply since extent behind)) ≡ after_turn tokens stories (folded c) turn =
         λ i. record { token = Some ends; base = c.token.b; front = max c.front fronts.e; rooms = λ room. rooms room i } in
         record {
           turns = kept.turns ++ turn ∷ [];
@@ -160,20 +165,20 @@ module _ {V D F P : Type 0} (w : Server V D F P) (server : IsServer w) (h : Hist
           based = let low' : c.token.b ≤ c.token.e = kept.based in omega (arith, low', rises);
           reached = next_before since fronts;
           account = λ kind.
-              ap (λ ps. option_or (content_at kind ps) (c.account kind)) (account_is since sync behind)
+              ap (λ ps. option_or (content_at kind ps) (c.account kind)) (account_is since extent behind)
               ∙ account_more w user f kind final.accounts (accounts_stand h lawful) c.token fronts.a (c.account kind) reaches (kept.account kind);
         }
 
-    replied : (sync : Sync) (client : Option (Client V)) (since : Option SyncToken) (behind : is_behind since fronts ≡ true) → KeptIf low client
-        → KeptIf fronts (with_reply w user f client since sync.after (reply since sync behind))
-    replied sync None None behind kept = begins sync
-    replied sync (Some c) None behind kept = begins sync
-    replied sync None (Some since) behind kept = tt
-    replied sync (Some c) (Some since) behind kept =
+    replied : (extent : Extent) (client : Option (Client V)) (since : Option SyncToken) (behind : is_behind since fronts ≡ true) → KeptIf low client
+        → KeptIf fronts (with_reply w user f client since extent.after (reply since extent behind))
+    replied extent None None behind kept = begins extent
+    replied extent (Some c) None behind kept = begins extent
+    replied extent None (Some since) behind kept = tt
+    replied extent (Some c) (Some since) behind kept =
         elim (cases_Bool (same_token c.token since)) [
           | inl same ↦ rw same (
-              subst (λ s. (b : is_behind (Some s) fronts ≡ true) → Kept fronts (after_reply w user f (Some s) c.front c.rooms c.account sync.after (reply (Some s) sync b))) (same_is c.token since same)
-              (λ b. goes_on sync c b kept) behind)
+              subst (λ s. (b : is_behind (Some s) fronts ≡ true) → Kept fronts (after_reply w user f (Some s) c.front c.rooms c.account extent.after (reply (Some s) extent b))) (same_is c.token since same)
+              (λ b. goes_on extent c b kept) behind)
           | inr other ↦ rw other (passed low fronts (Some c) up kept)
         ]
 
@@ -196,7 +201,7 @@ module _ {V D F P : Type 0} (w : Server V D F P) (server : IsServer w) (h : Hist
         ∙ ap (λ pg. with_page (stories x).room gap.gap gap.before gap.behind pg p.0.state) there in
         λ i. record { joined = option_map (λ (p : ClientRoom Event Key × V). (read p i, p.1)) had.joined; invited = had.invited }
 
-    pages : (asks : PageAsk P) (c : Client V) → w.fits f asks.filter ≡ true → Kept low c → (o : Option (Opening Event)) → opening_of w user f asks (c.rooms asks.room) ≡ o
+    pages : (asks : PageAsk) (c : Client V) → sieves.fits f asks.filter ≡ true → Kept low c → (o : Option (Opening Event)) → opening_of w user f asks (c.rooms asks.room) ≡ o
         → Kept fronts (with_gap w user f fronts.e asks.room c (page_asked w here user asks) o)
     pages asks c fits kept None none = passed low fronts (Some c) up kept
     pages asks c fits kept (Some gap) some =
@@ -215,8 +220,8 @@ module _ {V D F P : Type 0} (w : Server V D F P) (server : IsServer w) (h : Hist
         let order : to_at asks.to ≤ asks.from_at = within.1 in
         let upper_in : asks.from_at ≤ c.token.e = within.2 in
         let at_end : page ≡ page_of (stories room).room (stories room).events asks.limit fronts.e (asked_gap asks) =
-        ap (λ l. page_of (room_of (w.page_sieve asks.filter room) user (events_in l room)) (events_in l room) asks.limit fronts.e (asked_gap asks)) mark
-        ∙ page_at_mark w server final (events_stand h lawful) user f asks.filter room fronts asks.limit (asked_gap asks) fits (omega arith) order (omega arith) in
+        ap (λ l. page_of (room_of (sieve_of w.name asks.filter room) user (events_in l room)) (events_in l room) asks.limit fronts.e (asked_gap asks)) mark
+        ∙ page_at_mark w final (events_stand h lawful) user f asks.filter room fronts asks.limit (asked_gap asks) fits (omega arith) order (omega arith) in
         let gap_page : page ≡ page_of (stories room).room (stories room).events asks.limit fronts.e gap.gap =
         at_end ∙ sym (ap (page_of (stories room).room (stories room).events asks.limit fronts.e) at.1) in
         let turn : Turn RoomId Event Key SyncToken = Paged asks.limit fronts.e (gaps room gap) in
@@ -233,33 +238,33 @@ module _ {V D F P : Type 0} (w : Server V D F P) (server : IsServer w) (h : Hist
           account = kept.account;
         }
 
-    shown : (asks : PageAsk P) (client : Option (Client V)) → w.fits f asks.filter ≡ true → KeptIf low client → KeptIf fronts (with_shown w user f fronts.e asks (page_asked w here user asks) client)
+    shown : (asks : PageAsk) (client : Option (Client V)) → sieves.fits f asks.filter ≡ true → KeptIf low client → KeptIf fronts (with_shown w user f fronts.e asks (page_asked w here user asks) client)
     shown asks None fits kept = tt
     shown asks (Some c) fits kept = pages asks c fits kept (opening_of w user f asks (c.rooms asks.room)) refl
 
     -- ---- an answer to the device
 
-    syncs : (asks : SyncAsk F) (client : Option (Client V)) → KeptIf low client → (b : Bool) → is_behind asks.since fronts ≡ b
+    syncs : (asks : SyncAsk) (client : Option (Client V)) → KeptIf low client → (b : Bool) → is_behind asks.since fronts ≡ b
         → KeptIf fronts (with_said w user f fronts.e (cond b (Replied asks (reply_of w here user asks)) PassedOver) client)
     syncs asks client kept false ahead = passed low fronts client up kept
     syncs asks client kept true behind =
-        elim (cases_Bool (w.same_filter asks.filter f)) [
+        elim (cases_Bool (sieves.same_filter asks.filter f)) [
           | inl same ↦ rw same (
-              subst (λ g. KeptIf fronts (with_reply w user f client asks.since asks.sync.after (reply_of w here user (record { filter = g; since = asks.since; sync = asks.sync })))) (sym (server.filters asks.filter f same))
-              (replied asks.sync client asks.since behind kept))
+              subst (λ g. KeptIf fronts (with_reply w user f client asks.since asks.extent.after (reply_of w here user (record { filter = g; since = asks.since; extent = asks.extent })))) (sym (filters_are asks.filter f same))
+              (replied asks.extent client asks.since behind kept))
           | inr other ↦ rw other (passed low fronts client up kept)
         ]
 
-    paged : (asks : PageAsk P) (client : Option (Client V)) → KeptIf low client → (b : Bool)
+    paged : (asks : PageAsk) (client : Option (Client V)) → KeptIf low client → (b : Bool)
         → KeptIf fronts (with_said w user f fronts.e (cond b (Showed asks (page_asked w here user asks)) PassedOver) client)
     paged asks client kept false = passed low fronts client up kept
     paged asks client kept true =
-        elim (cases_Bool (w.fits f asks.filter)) [
+        elim (cases_Bool (sieves.fits f asks.filter)) [
           | inl fits ↦ rw fits (shown asks client fits kept)
           | inr other ↦ rw other (passed low fronts client up kept)
         ]
 
-    answered : (asks : Ask F P) (memory : Bool) (client : Option (Client V)) → KeptIf low client → KeptIf fronts (with_said w user f fronts.e (cond memory PassedOver (answer_to w here user asks)) client)
+    answered : (asks : Ask) (memory : Bool) (client : Option (Client V)) → KeptIf low client → KeptIf fronts (with_said w user f fronts.e (cond memory PassedOver (answer_to w here user asks)) client)
     answered asks true client kept = passed low fronts client up kept
     answered (Syncs asks) false client kept = syncs asks client kept (is_behind asks.since fronts) refl
     answered (Pages asks) false client kept = paged asks client kept (sees_room w here user asks.room && (nat_le asks.from_cut fronts.e && is_behind asks.to fronts))
@@ -272,14 +277,14 @@ rise_to h n m few =
     before_from (fronts_of (lists_at n h)) (fronts_of (lists_at m h)) (front_rises n.events m.events h.events few.events) (front_rises n.receipts m.receipts h.receipts few.receipts)
     (front_rises n.accounts m.accounts h.accounts few.accounts) (omega arith)
 
-module _ {V D F P : Type 0} (w : Server V D F P) (server : IsServer w) (h : Histories) (lawful : AreLawful h) (rests : RestsFold w (lists_of h)) (device : ℕ) (f : F) (folds : w.folds f ≡ true) where
+module _ {V D : Type 0} (w : Server V D) (h : Histories) (lawful : AreLawful h) (rests : RestsFold w (lists_of h)) (device : ℕ) (f : Selection) (folds : sieves.folds f ≡ true) where
   abbrev fronts_at : Counts → SyncToken
   fronts_at n = fronts_of (lists_at n h)
 
   abbrev IsKept : SyncToken → Option (Client V) → Type 0
-  IsKept fronts client = KeptIf w server h lawful rests (w.user_of device) f folds fronts client
+  IsKept fronts client = KeptIf w h lawful rests (w.user_of device) f folds fronts client
 
-  one_more : (low : Counts) (a : ℕ × Ask F P) (mark : Mark) (client : Option (Client V)) → AreFewer low mark.stores → IsKept (fronts_at low) client
+  one_more : (low : Counts) (a : ℕ × Ask) (mark : Mark) (client : Option (Client V)) → AreFewer low mark.stores → IsKept (fronts_at low) client
       → IsKept (fronts_at mark.stores) (cond (nat_eq a.0 device) (with_said w (w.user_of device) f (fronts_at mark.stores).e (exchange_at w h a mark).said client) client)
   one_more low a mark client few kept =
       let here : Lists = lists_at mark.stores h in
@@ -287,16 +292,16 @@ module _ {V D F P : Type 0} (w : Server V D F P) (server : IsServer w) (h : Hist
       elim (cases_Bool (nat_eq a.0 device)) [
         | inl mine ↦ rw mine (
             subst (λ d. IsKept (fronts_at mark.stores) (with_said w (w.user_of device) f (fronts_of here).e (cond mark.memory PassedOver (answer_to w here (w.user_of d) a.1)) client)) (sym (eqb-true a.0 device mine))
-            (answered w server h lawful rests (w.user_of device) f folds here (mark_upto h mark.stores) (fronts_at low) up a.1 mark.memory client kept))
-        | inr other ↦ rw other (passed w server h lawful rests (w.user_of device) f folds (fronts_at low) (fronts_at mark.stores) client up kept)
+            (answered w h lawful rests (w.user_of device) f folds here (mark_upto h mark.stores) (fronts_at low) up a.1 mark.memory client kept))
+        | inr other ↦ rw other (passed w h lawful rests (w.user_of device) f folds (fronts_at low) (fronts_at mark.stores) client up kept)
       ]
 
-  all_agree : (low : Counts) (client : Option (Client V)) (asked : List (ℕ × Ask F P)) (marks : List Mark) → MarksRise low marks (counts_of h) → IsKept (fronts_at low) client
+  all_agree : (low : Counts) (client : Option (Client V)) (asked : List (ℕ × Ask)) (marks : List Mark) → MarksRise low marks (counts_of h) → IsKept (fronts_at low) client
       → IfSome (chain w device f client (exchanges w h asked marks)) (Agrees w (w.user_of device) f (lists_of h))
-  all_agree low client [] marks rise kept = agrees_from w server h lawful rests (w.user_of device) f folds (fronts_at low) client kept
-  all_agree low client (a ∷ asked) [] rise kept = agrees_from w server h lawful rests (w.user_of device) f folds (fronts_at low) client kept
+  all_agree low client [] marks rise kept = agrees_from w h lawful rests (w.user_of device) f folds (fronts_at low) client kept
+  all_agree low client (a ∷ asked) [] rise kept = agrees_from w h lawful rests (w.user_of device) f folds (fronts_at low) client kept
   all_agree low client (a ∷ asked) (mark ∷ marks) rise kept =
       all_agree mark.stores (cond (nat_eq a.0 device) (with_said w (w.user_of device) f (fronts_at mark.stores).e (exchange_at w h a mark).said client) client) asked marks rise.1 (one_more low a mark client rise.0 kept)
 
-pub connections_agree : {V D F P : Type 0} → ConnectionsAgree V D F P
-connections_agree w server h lawful rests asked marks rise device f folds = all_agree w server h lawful rests device f folds no_stores None asked marks rise tt
+pub connections_agree : {V D : Type 0} → ConnectionsAgree V D
+connections_agree w h lawful rests asked marks rise device f folds = all_agree w h lawful rests device f folds no_stores None asked marks rise tt

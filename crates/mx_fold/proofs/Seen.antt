@@ -21,9 +21,10 @@ use Rattle.mx_view.specs.Readings.{viewer_of}
 use Rattle.mx_view.specs.Rooms.{Key, Sieve, room_of}
 use Rattle.mx_view.specs.Tokens.{tokens, next_token}
 use Rattle.mx_view.proofs.Pictured.{same_shown}
+use Rattle.mx_filter.specs.Sieves.{sieve_of}
 use Rattle.mx_fold.specs.Lists.{Lists, fronts_of, events_in, lists_at}
 use Rattle.mx_fold.specs.Servers.{Server, story}
-use Rattle.mx_fold.specs.Replies.{SyncAsk, Ask, Syncs, Pages, Else, Said, Replied, Showed, PassedOver, heroes_in, reply_of, is_behind, sees_room, answer_to, asked_gap, page_asked}
+use Rattle.mx_fold.specs.Replies.{SyncAsk, Ask, Syncs, Pages, Else, Said, Replied, Showed, PassedOver, heroes_in, reply_of, sync_of, is_behind, sees_room, answer_to, asked_gap, page_asked}
 use Rattle.mx_fold.specs.Sent.{IsSeen, sent_of, AreSeen, SeesSaid}
 use Rattle.mx_fold.specs.Exchanges.{ConnectionsSee}
 
@@ -85,53 +86,53 @@ module _ {E K V D T : Type 0} (k : Tokens T) (g : Story E K V D T) (j : T) (leav
   sent_told true since None = tt
   sent_told true since (Some e) = sent_by since e (g.membership e)
 
-module _ {V D F P : Type 0} (w : Server V D F P) (lists : Lists) (user : List ℕ) where
+module _ {V D : Type 0} (w : Server V D) (lists : Lists) (user : List ℕ) where
   abbrev front : ℕ
   front = (fronts_of lists).e
 
-  told_seen : (ask : SyncAsk F) (room : RoomId) (b : ℕ) (j : SyncToken) → j.e ≡ front
-      → AreSeen w lists user room (sent_of (told tokens (story w lists user ask.filter room) ask.sync (heroes_in w lists user ask room) b ask.since j))
+  told_seen : (ask : SyncAsk) (room : RoomId) (b : ℕ) (j : SyncToken) → j.e ≡ front
+      → AreSeen w lists user room (sent_of (told tokens (story w lists user ask.filter room) (sync_of ask) (heroes_in w lists user ask room) b ask.since j))
   told_seen ask room b j same =
       let g = story w lists user ask.filter room in
       let es : List Event = events_in lists room in
-      let sieve : Sieve = w.sieve ask.filter room in
+      let sieve : Sieve = sieve_of w.name ask.filter room in
       let s : ℕ = position tokens ask.since in
       let heroes : Key → Bool = heroes_in w lists user ask room in
       let pick_new = picks_new g.room heroes in
-      let pick = picks g.room ask.sync.redundant b s (cond ask.sync.full 0 s) heroes in
-      let anew = part_of g.room es j.e (window ask.sync.after ask.sync.limit 0 j.e) pick_new in
-      let more = part_of g.room es j.e (window ask.sync.after ask.sync.limit s j.e) pick in
-      subst (λ n. AllByRecursion (IsSeen user es n) (sent_of (told tokens g ask.sync heroes b ask.since j))) same
-      (sent_told tokens g j ask.sync.leave anew more (IsSeen user es j.e)
-      (part_seen sieve user es j.e ask.sync.after ask.sync.limit 0 j.e pick_new) (part_seen sieve user es j.e ask.sync.after ask.sync.limit s j.e pick) g.picked ask.since (own_at g j.e))
+      let pick = picks g.room (sync_of ask).redundant b s (cond (sync_of ask).full 0 s) heroes in
+      let anew = part_of g.room es j.e (window (sync_of ask).after (sync_of ask).limit 0 j.e) pick_new in
+      let more = part_of g.room es j.e (window (sync_of ask).after (sync_of ask).limit s j.e) pick in
+      subst (λ n. AllByRecursion (IsSeen user es n) (sent_of (told tokens g (sync_of ask) heroes b ask.since j))) same
+      (sent_told tokens g j (sync_of ask).leave anew more (IsSeen user es j.e)
+      (part_seen sieve user es j.e (sync_of ask).after (sync_of ask).limit 0 j.e pick_new) (part_seen sieve user es j.e (sync_of ask).after (sync_of ask).limit s j.e pick) g.picked ask.since (own_at g j.e))
 
   next_e : (since : Option SyncToken) → (next_token since (fronts_of lists)).e ≡ front
   next_e None = refl
   next_e (Some s) = refl
 
-  reply_seen : (ask : SyncAsk F) → SeesSaid w lists user (Replied ask (reply_of w lists user ask))
+  reply_seen : (ask : SyncAsk) → SeesSaid w lists user (Replied ask (reply_of w lists user ask))
   reply_seen ask room = (
     told_seen ask room (next_token ask.since (fronts_of lists)).b (next_token ask.since (fronts_of lists)) (next_e ask.since),
-    left_seen (w.sieve ask.filter room) user (events_in lists room) front ask.sync (next_token ask.since (fronts_of lists)).b (position tokens ask.since)
+    left_seen (sieve_of w.name ask.filter room) user (events_in lists room) front (sync_of ask) (next_token ask.since (fronts_of lists)).b (position tokens ask.since)
         (not (joined_at (viewer_of user) (events_in lists room) (position tokens ask.since))) (left_by (viewer_of user) (events_in lists room)),
   )
 
-  said_if : (said : Said V D F P) → SeesSaid w lists user said → (b : Bool) → SeesSaid w lists user (cond b said PassedOver)
+  said_if : (said : Said V D) → SeesSaid w lists user said → (b : Bool) → SeesSaid w lists user (cond b said PassedOver)
   said_if said seen true = seen
   said_if said seen false = tt
 
-  said_seen : (asked : Ask F P) → SeesSaid w lists user (answer_to w lists user asked)
+  said_seen : (asked : Ask) → SeesSaid w lists user (answer_to w lists user asked)
   said_seen (Syncs ask) = said_if (Replied ask (reply_of w lists user ask)) (reply_seen ask) (is_behind ask.since (fronts_of lists))
   said_seen (Pages ask) =
-      said_if (Showed ask (page_asked w lists user ask)) (page_seen (w.page_sieve ask.filter ask.room) user (events_in lists ask.room) front ask.limit (asked_gap ask))
+      said_if (Showed ask (page_asked w lists user ask)) (page_seen (sieve_of w.name ask.filter ask.room) user (events_in lists ask.room) front ask.limit (asked_gap ask))
       (sees_room w lists user ask.room && (nat_le ask.from_cut (fronts_of lists).e && is_behind ask.to (fronts_of lists)))
   said_seen Else = tt
 
-  answer_seen : (asked : Ask F P) (memory : Bool) → SeesSaid w lists user (cond memory PassedOver (answer_to w lists user asked))
+  answer_seen : (asked : Ask) (memory : Bool) → SeesSaid w lists user (cond memory PassedOver (answer_to w lists user asked))
   answer_seen asked true = tt
   answer_seen asked false = said_seen asked
 
-pub connections_see : {V D F P : Type 0} → ConnectionsSee V D F P
+pub connections_see : {V D : Type 0} → ConnectionsSee V D
 connections_see w h [] marks = tt
 connections_see w h (a ∷ asked) [] = tt
 connections_see w h (a ∷ asked) (mark ∷ marks) = (answer_seen w (lists_at mark.stores h) (w.user_of a.0) a.1 mark.memory, connections_see w h asked marks)

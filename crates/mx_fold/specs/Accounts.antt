@@ -11,17 +11,20 @@ use Rattle.mx_account.specs.Entries.{content_of, is_of, kind_of, position_of}
 use Rattle.mx_account.specs.Values.{value_at}
 use Rattle.mx_account.specs.declared.entry.Entry.{Entry}
 use Rattle.mx_fold.specs.Servers.{Server}
+use Rattle.mx_filter.specs.Passes as filters
+use Rattle.mx_filter.specs.declared.parts.DataPart.TheVariants as kinds
+use Rattle.mx_filter.specs.declared.parts.Selection.{Selection}
 
-abbrev pub defaults_of : {V D F P : Type 0} → Server V D F P → List ℕ → F → List (List ℕ × Json)
-defaults_of w user f = filter (λ (p : List ℕ × Json). w.passes_type f p.0) (w.defaults user)
+abbrev pub defaults_of : {V D : Type 0} → Server V D → List ℕ → Selection → List (List ℕ × Json)
+defaults_of w user f = filter (λ (p : List ℕ × Json). filters.passes_type f kinds.Account p.0) (w.defaults user)
 
-module _ {V D F P : Type 0} (w : Server V D F P) (entries : List Entry) (user : List ℕ) (f : F) where
+module _ {V D : Type 0} (w : Server V D) (entries : List Entry) (user : List ℕ) (f : Selection) where
   -- the entries of a window that no later one of their type follows, of the types that pass
   abbrev pub set_between : ℕ → ℕ → List (List ℕ × Json)
   set_between low high =
       map (λ e. (kind_of e, content_of e))
-          (filter (λ e. w.passes_type f (kind_of e))
-              (current (λ e d. bytes_eq (kind_of d) (kind_of e)) (between position_of low high (filter (is_of user None) entries))))
+      (filter (λ e. filters.passes_type f kinds.Account (kind_of e))
+      (current (λ e d. bytes_eq (kind_of d) (kind_of e)) (between position_of low high (filter (is_of user None) entries))))
 
   -- without `since` all, with the defaults of types that aren't set; else the types set after it
   abbrev pub account_sent : Option SyncToken → ℕ → List (List ℕ × Json)
@@ -34,5 +37,6 @@ abbrev pub content_at : List ℕ → List (List ℕ × Json) → Option Json
 content_at kind ps = option_map (λ (p : List ℕ × Json). p.1) (last_of (λ (p : List ℕ × Json). bytes_eq p.0 kind) ps)
 
 -- *Picture*, of a user's global account data: for each type that passes the last content up to a, else the default
-abbrev pub account_at : {V D F P : Type 0} → Server V D F P → List Entry → List ℕ → F → ℕ → List ℕ → Option Json
-account_at w entries user f a kind = option_or (cond (w.passes_type f kind) (value_at user None kind a entries) None) (content_at kind (defaults_of w user f))
+abbrev pub account_at : {V D : Type 0} → Server V D → List Entry → List ℕ → Selection → ℕ → List ℕ → Option Json
+account_at w entries user f a kind = option_or (cond (filters.passes_type f kinds.Account kind) (value_at user None kind a entries) None)
+    (content_at kind (defaults_of w user f))

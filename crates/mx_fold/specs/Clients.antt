@@ -12,6 +12,8 @@ use Rattle.mx_folding.specs.Stories.{position, Holding, with_told}
 use Rattle.mx_folding.specs.Chains.{Opening}
 use Rattle.mx_view.specs.Rooms.{Key}
 use Rattle.mx_view.specs.Tokens.{tokens, same_token}
+use Rattle.mx_filter.specs.Sieves as sieves
+use Rattle.mx_filter.specs.declared.parts.Selection.{Selection}
 use Rattle.mx_fold.specs.Lists.{Lists, no_lists, fronts_of}
 use Rattle.mx_fold.specs.Servers.{Server, story}
 use Rattle.mx_fold.specs.Accounts.{content_at, account_at}
@@ -39,7 +41,7 @@ find_gap gap (Open found ∷ es) =
     cond (same_gap found gap) (Some (record { before = []; gap = found; behind = es }))
     (option_map (λ (o : Opening _). record o { before = Open found ∷ o.before }) (find_gap gap es))
 
-module _ {V D F P : Type 0} (w : Server V D F P) (user : List ℕ) (f : F) where
+module _ {V D : Type 0} (w : Server V D) (user : List ℕ) (f : Selection) where
   -- apply_reply; no list is read for what a client does
   abbrev pub after_reply : Option SyncToken → ℕ → (RoomId → Holding Event Key V) → (List ℕ → Option Json) → Bool → Reply V D → Client V
   after_reply since front rooms account after reply = record {
@@ -73,7 +75,7 @@ module _ {V D F P : Type 0} (w : Server V D F P) (user : List ℕ) (f : F) where
   }
 
   -- where the gap that a page was asked for stands open
-  abbrev pub opening_of : PageAsk P → Holding Event Key V → Option (Opening Event)
+  abbrev pub opening_of : PageAsk → Holding Event Key V → Option (Opening Event)
   opening_of ask had = option_and_then (λ (p : ClientRoom Event Key × V). find_gap (asked_gap ask) p.0.timeline) had.joined
 
   -- a page of an open gap is applied; another is passed over
@@ -81,28 +83,28 @@ module _ {V D F P : Type 0} (w : Server V D F P) (user : List ℕ) (f : F) where
   with_gap front room c page None = c
   with_gap front room c page (Some o) = after_page front room c o page
 
-  abbrev pub with_shown : ℕ → PageAsk P → Page Event → Option (Client V) → Option (Client V)
+  abbrev pub with_shown : ℕ → PageAsk → Page Event → Option (Client V) → Option (Client V)
   with_shown front ask page client = option_map (λ (c : Client V). with_gap front ask.room c page (opening_of ask (c.rooms ask.room))) client
 
   -- the client after an answer to its device
-  abbrev pub with_said : ℕ → Said V D F P → Option (Client V) → Option (Client V)
-  with_said front (Replied ask reply) client = cond (w.same_filter ask.filter f) (with_reply client ask.since ask.sync.after reply) client
-  with_said front (Showed ask page) client = cond (w.fits f ask.filter) (with_shown front ask page client) client
+  abbrev pub with_said : ℕ → Said V D → Option (Client V) → Option (Client V)
+  with_said front (Replied ask reply) client = cond (sieves.same_filter ask.filter f) (with_reply client ask.since ask.extent.after reply) client
+  with_said front (Showed ask page) client = cond (sieves.fits f ask.filter) (with_shown front ask page client) client
   with_said front PassedOver client = client
 
 -- the device that asked, the lists at the mark, and what was answered
-pub record Exchange (V D F P : Type 0) : Type 0 where
+pub record Exchange (V D : Type 0) : Type 0 where
   pub device : ℕ
   pub lists : Lists
-  pub said : Said V D F P
+  pub said : Said V D
 
 -- *Chain*: the client of a device and a filter after these exchanges, from what it was before them
-abbrev pub chain : {V D F P : Type 0} → Server V D F P → ℕ → F → Option (Client V) → List (Exchange V D F P) → Option (Client V)
+abbrev pub chain : {V D : Type 0} → Server V D → ℕ → Selection → Option (Client V) → List (Exchange V D) → Option (Client V)
 chain w device f client [] = client
 chain w device f client (x ∷ xs) =
     chain w device f (cond (nat_eq x.device device) (with_said w (w.user_of device) f (fronts_of x.lists).e x.said client) client) xs
 
 -- *Agrees*: the client holds what the picture at its token has
-pub record Agrees {V D F P : Type 0} (w : Server V D F P) (user : List ℕ) (f : F) (lists : Lists) (c : Client V) : Type 0 where
+pub record Agrees {V D : Type 0} (w : Server V D) (user : List ℕ) (f : Selection) (lists : Lists) (c : Client V) : Type 0 where
   pub rooms : (room : RoomId) → HoldsPicture w lists user f c.token c.front room (c.rooms room)
   pub account : (kind : List ℕ) → c.account kind ≡ account_at w lists.accounts user f c.token.a kind

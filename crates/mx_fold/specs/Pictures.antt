@@ -15,6 +15,9 @@ use Rattle.mx_folding.specs.Stories.{Standing, Out, In, Asked, standing_by, Hold
 use Rattle.mx_view.specs.Pictures.{room_at, state_shown, timeline_shown}
 use Rattle.mx_view.specs.Readings.{is_own, membership_of}
 use Rattle.mx_view.specs.Rooms.{Key, Sieve, room_of, stripped_of}
+use Rattle.mx_filter.specs.Passes as filters
+use Rattle.mx_filter.specs.Sieves.{sieve_of}
+use Rattle.mx_filter.specs.declared.parts.Selection.{Selection}
 use Rattle.mx_fold.specs.Lists.{Lists, upto, events_in}
 use Rattle.mx_fold.specs.Servers.{Server}
 
@@ -29,11 +32,12 @@ abbrev pub stands : Sieve → List ℕ → List Event → Option Event → Stand
 stands f user es None = Out
 stands f user es (Some e) = standing_by (membership_of e) (map position_of (stripped_of f user es e))
 
-abbrev pub picture : {V D F P : Type 0} → Server V D F P → Lists → List ℕ → F → SyncToken → RoomId → Picture V
+abbrev pub picture : {V D : Type 0} → Server V D → Lists → List ℕ → Selection → SyncToken → RoomId → Picture V
 picture w lists user f t room = record {
-  standing = cond (w.picks f room) (stands (w.sieve f room) user (events_in lists room) (last_of (is_own user) (room_at (events_in lists room) t.e))) Out;
-  timeline = map (λ e. shown (events_in lists room) e t.e) (timeline_shown (w.sieve f room) user (events_in lists room) t.e);
-  state = λ k. option_map (λ e. shown (events_in lists room) e t.e) (state_shown (w.sieve f room) (events_in lists room) t.e k);
+  standing = cond (filters.picks w.name f room)
+      (stands (sieve_of w.name f room) user (events_in lists room) (last_of (is_own user) (room_at (events_in lists room) t.e))) Out;
+  timeline = map (λ e. shown (events_in lists room) e t.e) (timeline_shown (sieve_of w.name f room) user (events_in lists room) t.e);
+  state = λ k. option_map (λ e. shown (events_in lists room) e t.e) (state_shown (sieve_of w.name f room) (events_in lists room) t.e k);
   view = w.view user f room (upto t lists);
 }
 
@@ -60,10 +64,10 @@ Shows {V = V} r es b t front p In had =
 Shows r es b t front p (Asked ids) had = (had.joined ≡ None) × (had.invited ≡ Some ids)
 
 -- the client holds of a room what the picture at its token has of it
-abbrev pub HoldsPicture : {V D F P : Type 0} → Server V D F P → Lists → List ℕ → F → SyncToken → ℕ → RoomId → Holding Event Key V → Type 0
+abbrev pub HoldsPicture : {V D : Type 0} → Server V D → Lists → List ℕ → Selection → SyncToken → ℕ → RoomId → Holding Event Key V → Type 0
 HoldsPicture w lists user f t front room had =
-    Shows (room_of (w.sieve f room) user (events_in lists room)) (events_in lists room) t.b t.e front (picture w lists user f t room)
-        (picture w lists user f t room).standing had
+    Shows (room_of (sieve_of w.name f room) user (events_in lists room)) (events_in lists room) t.b t.e front (picture w lists user f t room)
+    (picture w lists user f t room).standing had
 
 -- Without an open gap a client holds just the picture's timeline, and without lazy members just its state.
 abbrev pub ClosedIsPicture : Type 0 → Type 0

@@ -1,5 +1,5 @@
 use Rattle.std.proofs.Common.{refl}
-use Rattle.mx_fold_rows.specs.Stays.{BreakAtHidden, PageOfStay, StateAfter, NoBreakAtDropped, HasLeft, CameBack, IsInvited, LeftSinceToken, LeftLimited, LeftBeforeToken, FirstBase, KeptBase}
+use Rattle.mx_fold_rows.specs.Stays.{BreakAtHidden, PageOfStay, StateAfter, NoBreakAtDropped, HasLeft, CameBack, IsInvited, LeftAlready, InvitedAlready, LeaveIncluded, LeaveLeftOut, LeftSinceToken, LeftLimited, LeftBeforeToken, LeftSender, FirstBase, KeptBase}
 
 pub break_at_hidden : BreakAtHidden
 break_at_hidden = refl
@@ -22,6 +22,18 @@ came_back = refl
 pub is_invited : IsInvited
 is_invited = refl
 
+pub left_already : LeftAlready
+left_already = refl
+
+pub invited_already : InvitedAlready
+invited_already = refl
+
+pub leave_included : LeaveIncluded
+leave_included = refl
+
+pub leave_left_out : LeaveLeftOut
+leave_left_out = refl
+
 pub left_since_token : LeftSinceToken
 left_since_token = refl
 
@@ -30,6 +42,9 @@ left_limited = refl
 
 pub left_before_token : LeftBeforeToken
 left_before_token = refl
+
+pub left_sender : LeftSender
+left_sender = refl
 
 pub first_base : FirstBase
 first_base = refl

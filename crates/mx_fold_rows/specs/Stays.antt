@@ -12,7 +12,7 @@ use Rattle.mx_view.specs.Rooms.{Sieve, room_by}
 use Rattle.mx_view.specs.Tokens.{next_token}
 use Rattle.mx_fold_rows.specs.Events.{bob, left_room, shared_room}
 use Rattle.mx_fold_rows.specs.Said.{said}
-use Rattle.mx_fold_rows.specs.Heard.{everything, token, asks, asks_state_after, nobody, Asked, Gone, Change, Whole, places, says, page}
+use Rattle.mx_fold_rows.specs.Heard.{everything, lazily, token, asks, asks_state_after, nobody, Silent, Asked, Gone, Change, Whole, places, says, page}
 
 -- The topic that was set while bob was away breaks the timeline; the room isn't new to him, as he was joined at his token.
 abbrev pub BreakAtHidden : Type 0
@@ -48,13 +48,30 @@ CameBack = says bob left_room everything (asks 10) nobody (Some (token 13 8)) (t
 abbrev pub IsInvited : Type 0
 IsInvited = says bob shared_room everything (asks 10) nobody None (token 8 8) ≡ Asked (1 ∷ 4 ∷ 8 ∷ [])
 
+-- one who left before the token isn't told of again, nor is one who was invited before it
+abbrev pub LeftAlready : Type 0
+LeftAlready = says bob left_room everything (asks 10) nobody (Some (token 12 8)) (token 13 8) ≡ Silent
+
+abbrev pub InvitedAlready : Type 0
+InvitedAlready = says bob shared_room everything (asks 10) nobody (Some (token 8 8)) (token 8 8) ≡ Silent
+
+-- without `since` a left room is told of with include_leave alone
+abbrev pub LeaveIncluded : Type 0
+LeaveIncluded = says bob left_room everything (record (asks 10) { leave = true }) nobody None (token 13 13) ≡ Gone
+
+abbrev pub LeaveLeftOut : Type 0
+LeaveLeftOut = says bob left_room everything (asks 10) nobody None (token 13 13) ≡ Silent
+
 abbrev pub of_part : Part Event → Bool × ℕ × List ℕ × List ℕ
 of_part p = (p.limited, p.cut, places p.state, places p.sent)
 
-abbrev pub leaving : Sync → Option SyncToken → SyncToken → Bool × ℕ × List ℕ × List ℕ
-leaving ask since j =
+abbrev pub leaving_by : Sieve → Sync → Option SyncToken → SyncToken → Bool × ℕ × List ℕ × List ℕ
+leaving_by f ask since j =
     let es : List Event = room_at left_room j.e in
-    of_part (left_of (room_by said everything bob es) (viewer_by said bob) es ask (next_token since j).b since j.e)
+    of_part (left_of (room_by said f bob es) (viewer_by said bob) es ask (next_token since j).b since j.e)
+
+abbrev pub leaving : Sync → Option SyncToken → SyncToken → Bool × ℕ × List ℕ × List ℕ
+leaving = leaving_by everything
 
 -- a left room's window ends with the stay; to one who had left before the token nothing is sent, nor to one with no stay
 abbrev pub LeftSinceToken : Type 0
@@ -65,6 +82,10 @@ LeftLimited = leaving (asks 0) (Some (token 8 8)) (token 13 8) ≡ (true, 11, 9 
 
 abbrev pub LeftBeforeToken : Type 0
 LeftBeforeToken = leaving (asks 10) (Some (token 12 8)) (token 13 8) ≡ (false, 13, [], [])
+
+-- without `since` a left room is new; with lazy members of its members those of the senders and one's own
+abbrev pub LeftSender : Type 0
+LeftSender = leaving_by lazily (asks 1) None (token 13 13) ≡ (true, 10, 1 ∷ 3 ∷ 4 ∷ 6 ∷ 7 ∷ 8 ∷ 9 ∷ [], 11 ∷ [])
 
 -- a reply's token keeps the position at which its chain began
 abbrev pub FirstBase : Type 0

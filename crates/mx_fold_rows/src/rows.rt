@@ -3,7 +3,7 @@
 ghost use Rattle.mx_fold_rows.specs.Said.{SaysMembership, SaysSetting, SaysNames};
 ghost use Rattle.mx_fold_rows.specs.Exchanged.{FirstIsTold, NextIsTold, Begins, TakesPage, PassesPages, PassesReplies, GoesOnFrom, BeginsAnew, HasNotBegun};
 ghost use Rattle.mx_fold_rows.specs.Limits.{LastTen, RestOnePage, RestJustFits, PageOfThree, NoTimeline, LaterState, FullState, NothingNew, NeverThere};
-ghost use Rattle.mx_fold_rows.specs.Stays.{BreakAtHidden, PageOfStay, StateAfter, NoBreakAtDropped, HasLeft, CameBack, IsInvited, LeftSinceToken, LeftLimited, LeftBeforeToken, FirstBase, KeptBase};
+ghost use Rattle.mx_fold_rows.specs.Stays.{BreakAtHidden, PageOfStay, StateAfter, NoBreakAtDropped, HasLeft, CameBack, IsInvited, LeftAlready, InvitedAlready, LeaveIncluded, LeaveLeftOut, LeftSinceToken, LeftLimited, LeftBeforeToken, LeftSender, FirstBase, KeptBase};
 ghost use Rattle.mx_fold_rows.specs.Visible.{SharedSeen, SharedUnseen, JoinAfterFront, JoinedSeen, JoinedPage, WorldReads, WorldDoesnt, WorldReadsSetting, InvitedSees, BannedSees, OtherLeaves, UnsetIsShared, UnknownIsShared, MessageSetsNothing, OtherKeySetsNothing, EmptyKeySets, MessageJoinsNobody, KeyJoins};
 ghost use Rattle.mx_fold_rows.specs.Redacted.{RedactionSent, RedactionHidden, SentRedacted, SentBefore, CopyRedacted, CopyStays};
 ghost use Rattle.mx_fold_rows.specs.Lazy.{FirstMembers, FirstSender, FirstHero, SentOnceMore, HeroesSent, MemberOmitted, RedundantSent, SentByBase, MembersAfter, PageMembers};
@@ -32,7 +32,7 @@ pub fn limits_compute()
 {}
 
 /// A user who leaves and comes back, one who is invited, and what a left room has.
-#[tactic(auto, using(crate::proofs::Stays::break_at_hidden, crate::proofs::Stays::page_of_stay, crate::proofs::Stays::state_after, crate::proofs::Stays::no_break_at_dropped, crate::proofs::Stays::has_left, crate::proofs::Stays::came_back, crate::proofs::Stays::is_invited, crate::proofs::Stays::left_since_token, crate::proofs::Stays::left_limited, crate::proofs::Stays::left_before_token, crate::proofs::Stays::first_base, crate::proofs::Stays::kept_base))]
+#[tactic(auto, using(crate::proofs::Stays::break_at_hidden, crate::proofs::Stays::page_of_stay, crate::proofs::Stays::state_after, crate::proofs::Stays::no_break_at_dropped, crate::proofs::Stays::has_left, crate::proofs::Stays::came_back, crate::proofs::Stays::is_invited, crate::proofs::Stays::left_already, crate::proofs::Stays::invited_already, crate::proofs::Stays::leave_included, crate::proofs::Stays::leave_left_out, crate::proofs::Stays::left_since_token, crate::proofs::Stays::left_limited, crate::proofs::Stays::left_before_token, crate::proofs::Stays::left_sender, crate::proofs::Stays::first_base, crate::proofs::Stays::kept_base))]
 pub fn stays_compute()
     ensures break_at_hidden { BreakAtHidden }
     ensures page_of_stay { PageOfStay }
@@ -41,9 +41,14 @@ pub fn stays_compute()
     ensures has_left { HasLeft }
     ensures came_back { CameBack }
     ensures is_invited { IsInvited }
+    ensures left_already { LeftAlready }
+    ensures invited_already { InvitedAlready }
+    ensures leave_included { LeaveIncluded }
+    ensures leave_left_out { LeaveLeftOut }
     ensures left_since_token { LeftSinceToken }
     ensures left_limited { LeftLimited }
     ensures left_before_token { LeftBeforeToken }
+    ensures left_sender { LeftSender }
     ensures first_base { FirstBase }
     ensures kept_base { KeptBase }
 {}

@@ -1,5 +1,5 @@
 -- The folding law of one room: what a client holds after it has put a reply's part or a page into its room.
-use Rattle.std.specs.Prelude.{◌↔◌, ◌≡◌, ℕ, ◌≤◌, Bool, true, false, not, ◌&&◌, ◌||◌, List, [], ◌∷◌, ◌++◌, map, Option, nat_lt, nat_le}
+use Rattle.std.specs.Prelude.{◌↔◌, ◌≡◌, ℕ, ◌≤◌, Bool, true, false, not, ◌&&◌, List, [], ◌∷◌, ◌++◌, map, Option, nat_lt, nat_le}
 use Rattle.std.specs.List.{filter, list_any, AllByRecursion}
 use Rattle.mx_folding.specs.Sections.{sendable, section, cut, is_limited, window}
 use Rattle.std.specs.Option.{option_map}

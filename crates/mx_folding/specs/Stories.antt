@@ -141,7 +141,7 @@ told ts g ask heroes b since j =
     cond g.picked (told_of ts g since j ask.leave
     (part_of g.room g.events (ts.event j) (window ask.after ask.limit 0 (ts.event j)) (picks_new g.room heroes))
     (part_of g.room g.events (ts.event j) (window ask.after ask.limit (position ts since) (ts.event j))
-        (picks g.room ask.redundant b (position ts since) (cond ask.full 0 (position ts since)) heroes))
+    (picks g.room ask.redundant b (position ts since) (cond ask.full 0 (position ts since)) heroes))
     (own_at g (ts.event j))) Nothing
 
 -- what a client holds of a room

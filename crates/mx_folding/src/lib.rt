@@ -15,7 +15,7 @@ mod visible_laws;
 pub use chain_laws::{chains_fold, folds_room};
 pub use list_laws::{all_told_at, same_page, same_part};
 pub use room_laws::{
-    folds_new, folds_nothing, folds_page, folds_reply, closed_timeline, open_timeline, whole_state,
-    section_is_window, sent_is_visible,
+    closed_timeline, folds_new, folds_nothing, folds_page, folds_reply, open_timeline,
+    section_is_window, sent_is_visible, whole_state,
 };
 pub use visible_laws::{same_visible, stays_visible};

@@ -30,8 +30,25 @@ pub record Asked : Type 0 where
 
 abbrev pub all_asked : Asked
 all_asked = record {
-  ascends = true; earlier = true; keys = true; kept = true; red_at = true; red_key = true; red_sender = true; red_names = true; red_red = true;
-  stayed_less = true; stays = true; kinds = true; stayed = true; folds = true; still = true; rises = true; next = true; past = true; gaps = true;
+  ascends = true;
+  earlier = true;
+  keys = true;
+  kept = true;
+  red_at = true;
+  red_key = true;
+  red_sender = true;
+  red_names = true;
+  red_red = true;
+  stayed_less = true;
+  stays = true;
+  kinds = true;
+  stayed = true;
+  folds = true;
+  still = true;
+  rises = true;
+  next = true;
+  past = true;
+  gaps = true;
 }
 
 abbrev pub If : Bool → Type 0 → Type 0

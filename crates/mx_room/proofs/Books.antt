@@ -10,12 +10,13 @@ use Rattle.mx_event.specs.Lawful.{of_room, placed_event}
 use Rattle.mx_event.specs.declared.event.Event.{Event}
 use Rattle.mx_auth.specs.Standing.{Standing}
 use Rattle.mx_room.specs.declared.rooms.Room.{Room}
+use Rattle.mx_room.specs.declared.txns.TxnIndex.{TxnIndex}
 use Rattle.mx_room.specs.declared.txns.TxnKey.{TxnKey}
 use Rattle.mx_room.specs.Admitting.{sent_in}
 use Rattle.mx_room.specs.Books.{MayStand, Rooms, events_of, no_rooms, placed_block, taken_in}
 use Rattle.mx_room.specs.Creating.{IsNew}
 use Rattle.mx_room.specs.Held.{Bare, IsBook, IsRoomAt, OneWaits, Opens, Rises, Waits, after_block, bare, events_at, events_in}
-use Rattle.mx_room.specs.Keys.{HasPlace, Txns, id_after, id_at, sent_at, txn_of}
+use Rattle.mx_room.specs.Keys.{id_after, id_at, sent_at, txn_of}
 use Rattle.mx_room.proofs.Finding.{some_at, state_of}
 use Rattle.mx_room.proofs.Earlier.{sent_more, sent_new}
 use Rattle.mx_room.proofs.Taking.{all_low, all_of_room, events_after, events_push, items_more, new_room, none_above, opened_at, opens_after, opens_more, opens_push, own_events, own_room, rises_after, rises_push, same_after}
@@ -25,11 +26,11 @@ no_events true = refl
 no_events false = refl
 
 -- nothing is held of no rooms
-pub book_empty : (writer : ℕ) (txns : Txns) (spare : Type 0) → ((k : TxnKey) → id_at txns k ≡ None) → IsBook writer [] txns None None spare (no_rooms writer)
+pub book_empty : (writer : ℕ) (txns : TxnIndex) (spare : Type 0) → ((k : TxnKey) → id_at txns k ≡ None) → IsBook writer [] txns None None spare (no_rooms writer)
 book_empty writer txns spare empty = record { writes = refl; rises = tt; opens = tt; same = λ room. no_events (room.writer == writer); sent = empty; waits = tt }
 
 -- one event alone waits where no room is new
-pub one_waits : (writer : ℕ) (rs : List Room) (txns : Txns) (key : Option TxnKey) (spare : Type 0) (es : List Event) → 0 < length es → Waits writer rs txns key None spare es
+pub one_waits : (writer : ℕ) (rs : List Room) (txns : TxnIndex) (key : Option TxnKey) (spare : Type 0) (es : List Event) → 0 < length es → Waits writer rs txns key None spare es
     → (e : Event) × (es ≡ e ∷ []) × OneWaits writer rs txns key e
 one_waits writer rs txns key spare [] some h = absurd (omega (arith, some))
 one_waits writer rs txns key spare (e ∷ []) some h = (e, refl, h)
@@ -40,7 +41,7 @@ opens_new : (first : ℕ) (es : List Event) → 0 < length es → 0 < first → 
 opens_new first [] some above = absurd (omega (arith, some))
 opens_new first (e ∷ es) some above = record { placed = above; first = placed_event e first first; begins = refl; here = refl }
 
-module _ (writer : ℕ) (rs : List Room) (txns : Txns) (key : Option TxnKey) (fresh : Option Standing) (spare : Type 0) (b : Rooms) (held : IsBook writer rs txns key fresh spare b) where
+module _ (writer : ℕ) (rs : List Room) (txns : TxnIndex) (key : Option TxnKey) (fresh : Option Standing) (spare : Type 0) (b : Rooms) (held : IsBook writer rs txns key fresh spare b) where
   -- the events of each room stand below a position that is above those of the writer
   low_at : (first : ℕ) → MayStand b first → (at : ℕ) → AllByRecursion (λ (e : Event). e.id.at < first) (events_at at (map bare rs))
   low_at first may at =
@@ -53,7 +54,7 @@ module _ (writer : ℕ) (rs : List Room) (txns : Txns) (key : Option TxnKey) (fr
   below first may = all_low first (map bare rs) held.rises held.opens (low_at first may)
 
   -- the fields after a block is stored
-  stored : (rs' : List Room) (txns' : Txns) (key' : Option TxnKey) (spare' : Type 0) (first : ℕ) → Rises (map bare rs') → AllByRecursion Opens (map bare rs')
+  stored : (rs' : List Room) (txns' : TxnIndex) (key' : Option TxnKey) (spare' : Type 0) (first : ℕ) → Rises (map bare rs') → AllByRecursion Opens (map bare rs')
       → ((room : RoomId) → events_in writer (map bare rs') room ≡ of_room room (events_of b ++ placed_block b first))
       → ((k : TxnKey) → id_at txns' k ≡ sent_in (Some k.txn) (events_of b ++ placed_block b first))
       → IsBook writer rs' txns' key' None spare' (taken_in b first)
@@ -71,7 +72,7 @@ module _ (writer : ℕ) (rs : List Room) (txns : Txns) (key : Option TxnKey) (fr
   -- a block that creates a room is stored
   module _ (first : ℕ) (may : MayStand b first) (some : 0 < length b.pending) (new : AllByRecursion (IsNew writer) b.pending) where
     abbrev opened : Room
-    opened = record { at = first; state = record { events = placed_block b first; room = [] } }
+    opened = record { at = first; state = record { events = placed_block b first; ready = [] } }
 
     pub new_stored : (rs' : List Room) (spare' : Type 0) → rs' ≡ rs ++ opened ∷ [] → IsBook writer rs' txns key None spare' (taken_in b first)
     new_stored rs' spare' is =
@@ -84,16 +85,16 @@ module _ (writer : ℕ) (rs : List Room) (txns : Txns) (key : Option TxnKey) (fr
         (λ k. held.sent k ∙ sym (sent_new k.txn writer first first (events_of b) b.pending new)))
 
 -- a block that creates a room is stored
-pub took_new : (writer : ℕ) (rs : List Room) (txns : Txns) (key : Option TxnKey) (s : Standing) (spare : Type 0) (b : Rooms) → IsBook writer rs txns key (Some s) spare b
+pub took_new : (writer : ℕ) (rs : List Room) (txns : TxnIndex) (key : Option TxnKey) (s : Standing) (spare : Type 0) (b : Rooms) → IsBook writer rs txns key (Some s) spare b
     → (first : ℕ) → MayStand b first → 0 < length b.pending → (rs' : List Room) (spare' : Type 0)
-    → rs' ≡ rs ++ record { at = first; state = record { events = s.events ++ placed_from placed_event first first b.pending; room = [] } } ∷ []
+    → rs' ≡ rs ++ record { at = first; state = record { events = s.events ++ placed_from placed_event first first b.pending; ready = [] } } ∷ []
     → IsBook writer rs' txns key None spare' (taken_in b first)
 took_new writer rs txns key s spare b held first may some rs' spare' is =
     new_stored writer rs txns key (Some s) spare b held first may some held.waits.2 rs' spare'
-    (is ∙ ap (λ es. rs ++ record { at = first; state = record { events = es ++ placed_from placed_event first first b.pending; room = [] } } ∷ []) held.waits.0)
+    (is ∙ ap (λ es. rs ++ record { at = first; state = record { events = es ++ placed_from placed_event first first b.pending; ready = [] } } ∷ []) held.waits.0)
 
 -- one event is stored, in the room at an index
-module _ (writer : ℕ) (rs : List Room) (txns : Txns) (key : Option TxnKey) (spare : Type 0) (b : Rooms) (held : IsBook writer rs txns key None spare b) (first : ℕ) (may : MayStand b first) where
+module _ (writer : ℕ) (rs : List Room) (txns : TxnIndex) (key : Option TxnKey) (spare : Type 0) (b : Rooms) (held : IsBook writer rs txns key None spare b) (first : ℕ) (may : MayStand b first) where
   module _ (e : Event) (waits : OneWaits writer rs txns key e) (i : ℕ) (d : Room) (within : i < length rs) (at : (get_or rs i d).at ≡ e.room.at) where
     abbrev was : Room
     was = get_or rs i d
@@ -124,15 +125,15 @@ module _ (writer : ℕ) (rs : List Room) (txns : Txns) (key : Option TxnKey) (sp
       by_key None h = refl
       by_key (Some k) h = sym (held.sent k) ∙ h
 
-    one_sent : (txns' : Txns) → ((k : TxnKey) → id_at txns' k ≡ id_after key (record { at = first }) k (id_at txns k)) → (k : TxnKey) → id_at txns' k ≡ sent_in (Some k.txn) (events ++ placed ∷ [])
+    one_sent : (txns' : TxnIndex) → ((k : TxnKey) → id_at txns' k ≡ id_after key (record { at = first }) k (id_at txns k)) → (k : TxnKey) → id_at txns' k ≡ sent_in (Some k.txn) (events ++ placed ∷ [])
     one_sent txns' after k =
         after k ∙ (ap (id_after key (record { at = first }) k) (held.sent k) ∙ sent_more k first events e key waits.named none_sent)
 
-    pub one_stored : (txns' : Txns) (spare' : Type 0) → b.pending ≡ e ∷ [] → ((k : TxnKey) → id_at txns' k ≡ id_after key (record { at = first }) k (id_at txns k))
-        → IsBook writer (set rs i now) txns' key None spare' (taken_in b first)
-    one_stored txns' spare' pending after =
+    pub one_stored : (txns' : TxnIndex) (key' : Option TxnKey) (spare' : Type 0) → b.pending ≡ e ∷ [] → ((k : TxnKey) → id_at txns' k ≡ id_after key (record { at = first }) k (id_at txns k))
+        → IsBook writer (set rs i now) txns' key' None spare' (taken_in b first)
+    one_stored txns' key' spare' pending after =
         let block : placed_block b first ≡ placed ∷ [] = ap (placed_from placed_event first first) pending in
-        stored writer rs txns key None spare b held (set rs i now) txns' key spare' first (rises_after d rs i now within refl held.rises)
+        stored writer rs txns key None spare b held (set rs i now) txns' key' spare' first (rises_after d rs i now within refl held.rises)
         (opens_after d rs i now within (opens_more was.at was.state.events (placed ∷ [])) held.opens)
         (λ room. one_same room ∙ ap (λ l. of_room room (events ++ l)) (sym block))
         (λ k. one_sent txns' after k ∙ ap (λ l. sent_in (Some k.txn) (events ++ l)) (sym block))
@@ -140,15 +141,15 @@ module _ (writer : ℕ) (rs : List Room) (txns : Txns) (key : Option TxnKey) (sp
 -- ---- what the code did, by equations
 
 -- a block that creates a room was stored
-pub after_new : {writer : ℕ} {rs : List Room} {txns : Txns} {key : Option TxnKey} {fresh : Option Standing} {spare : Type 0} {b : Rooms} → IsBook writer rs txns key fresh spare b
+pub after_new : {writer : ℕ} {rs : List Room} {txns : TxnIndex} {key : Option TxnKey} {fresh : Option Standing} {spare : Type 0} {b : Rooms} → IsBook writer rs txns key fresh spare b
     → (s : Standing) → fresh ≡ Some s → (view : Rooms) → b ≡ view → (first : ℕ) → MayStand view first → 0 < length view.pending → (es : List Event) → es ≡ view.pending
-    → (rs' : List Room) → rs' ≡ rs ++ record { at = first; state = record { events = s.events ++ placed_from placed_event first first es; room = [] } } ∷ []
+    → (rs' : List Room) → rs' ≡ rs ++ record { at = first; state = record { events = s.events ++ placed_from placed_event first first es; ready = [] } } ∷ []
     → (fresh' : Option Standing) → fresh' ≡ None → (b' : Rooms) → b' ≡ taken_in b first → (spare' : Type 0) → IsBook writer rs' txns key fresh' spare' b'
 after_new {writer} {rs} {txns} {key} {fresh} {spare} {b} held s there view is first may some es block rs' longer fresh' gone b' taken spare' =
     let all : IsBook writer rs' txns key None spare' (taken_in b first) =
     took_new writer rs txns key s spare b (subst (λ f. IsBook writer rs txns key f spare b) there held) first (subst (λ v. MayStand v first) (sym is) may)
     (subst (λ (v : Rooms). 0 < length v.pending) (sym is) some) rs' spare'
-    (longer ∙ ap (λ l. rs ++ record { at = first; state = record { events = s.events ++ placed_from placed_event first first l; room = [] } } ∷ []) (block ∙ ap (λ (v : Rooms). v.pending) (sym is))) in
+    (longer ∙ ap (λ l. rs ++ record { at = first; state = record { events = s.events ++ placed_from placed_event first first l; ready = [] } } ∷ []) (block ∙ ap (λ (v : Rooms). v.pending) (sym is))) in
     subst (λ f. IsBook writer rs' txns key f spare' b') (sym gone) (subst (λ v. IsBook writer rs' txns key None spare' v) (sym taken) all)
 
 -- the elements of a `Vec` whose slice was written
@@ -156,17 +157,17 @@ written : (n : ℕ) (xs ys : List Room) → n ≡ length ys → length xs ≡ le
 written n xs ys whole same = grind (arith, common_steps)
 
 blank : Room
-blank = record { at = 0; state = record { events = []; room = [] } }
+blank = record { at = 0; state = record { events = []; ready = [] } }
 
 -- one event was stored
-pub after_one : {writer : ℕ} {rs : List Room} {txns : Txns} {key : Option TxnKey} {fresh : Option Standing} {spare : Type 0} {b : Rooms} → IsBook writer rs txns key fresh spare b
+pub after_one : {writer : ℕ} {rs : List Room} {txns : TxnIndex} {key : Option TxnKey} {fresh : Option Standing} {spare : Type 0} {b : Rooms} → IsBook writer rs txns key fresh spare b
     → fresh ≡ None → (view : Rooms) → b ≡ view → (first : ℕ) → MayStand view first → 0 < length view.pending → (es : List Event) → es ≡ view.pending
     → (v : Event) (old : List Room) → old ≡ rs → (i : ℕ) → i < length old → ((d : Room) → (get_or old i d).at ≡ (get_or es 0 v).room.at)
     → (old' rs' : List Room) → old' ≡ rs → ((d : Room) → rs' ≡ set old' i (after_block first es (get_or old' i d)))
-    → (txns' : Txns) → ((k : TxnKey) → id_at txns' k ≡ id_after key (record { at = first }) k (id_at txns k))
+    → (txns' : TxnIndex) (moved key' : Option TxnKey) → moved ≡ key → ((k : TxnKey) → id_at txns' k ≡ id_after moved (record { at = first }) k (id_at txns k))
     → (fresh' : Option Standing) → fresh' ≡ None → (b' : Rooms) → b' ≡ taken_in b first → (spare' : Type 0) → (n : ℕ) → n ≡ length rs
-    → IsBook writer (take n (rs' ++ drop (length rs') rs)) txns' key fresh' spare' b'
-after_one {writer} {rs} {txns} {key} {fresh} {spare} {b} held none view is first may some es block v old was i within at old' rs' was' later txns' sent fresh' gone b' taken spare' n whole =
+    → IsBook writer (take n (rs' ++ drop (length rs') rs)) txns' key' fresh' spare' b'
+after_one {writer} {rs} {txns} {key} {fresh} {spare} {b} held none view is first may some es block v old was i within at old' rs' was' later txns' moved key' its sent fresh' gone b' taken spare' n whole =
     let held' : IsBook writer rs txns key None spare b = subst (λ f. IsBook writer rs txns key f spare b) none held in
     let one : (e : Event) × (b.pending ≡ e ∷ []) × OneWaits writer rs txns key e =
     one_waits writer rs txns key spare b.pending (subst (λ (r : Rooms). 0 < length r.pending) (sym is) some) held'.waits in
@@ -175,15 +176,15 @@ after_one {writer} {rs} {txns} {key} {fresh} {spare} {b} held none view is first
     let here : (get_or rs i blank).at ≡ one.0.room.at = ap (λ (l : List Room). (get_or l i blank).at) (sym was) ∙ (at blank ∙ ap (λ l. (get_or l 0 v).room.at) same) in
     let set_is : rs' ≡ set rs i (after_block first (one.0 ∷ []) (get_or rs i blank)) = later blank ∙ ap₂ (λ l m. set l i (after_block first m (get_or l i blank))) was' same in
     let size : length rs' ≡ length rs = ap length set_is ∙ length-set rs i (after_block first (one.0 ∷ []) (get_or rs i blank)) in
-    let all : IsBook writer (set rs i (after_block first (one.0 ∷ []) (get_or rs i blank))) txns' key None spare' (taken_in b first) =
-    one_stored writer rs txns key spare b held' first (subst (λ r. MayStand r first) (sym is) may) one.0 one.2 i blank within' here txns' spare' one.1 sent in
-    subst (λ l. IsBook writer l txns' key fresh' spare' b') (sym (written n rs' rs whole size ∙ set_is))
-    (subst (λ f. IsBook writer (set rs i (after_block first (one.0 ∷ []) (get_or rs i blank))) txns' key f spare' b') (sym gone)
-    (subst (λ r. IsBook writer (set rs i (after_block first (one.0 ∷ []) (get_or rs i blank))) txns' key None spare' r) (sym taken) all))
+    let all : IsBook writer (set rs i (after_block first (one.0 ∷ []) (get_or rs i blank))) txns' key' None spare' (taken_in b first) =
+    one_stored writer rs txns key spare b held' first (subst (λ r. MayStand r first) (sym is) may) one.0 one.2 i blank within' here txns' key' spare' one.1 (subst (λ m. (k : TxnKey) → id_at txns' k ≡ id_after m (record { at = first }) k (id_at txns k)) its sent) in
+    subst (λ l. IsBook writer l txns' key' fresh' spare' b') (sym (written n rs' rs whole size ∙ set_is))
+    (subst (λ f. IsBook writer (set rs i (after_block first (one.0 ∷ []) (get_or rs i blank))) txns' key' f spare' b') (sym gone)
+    (subst (λ r. IsBook writer (set rs i (after_block first (one.0 ∷ []) (get_or rs i blank))) txns' key' None spare' r) (sym taken) all))
 
 -- rooms of which none got an event or lost one
-module _ {writer : ℕ} {rs : List Room} {txns : Txns} {key : Option TxnKey} {fresh : Option Standing} {spare : Type 0} {b : Rooms} (held : IsBook writer rs txns key fresh spare b)
-    (rs' : List Room) (kept : map bare rs' ≡ map bare rs) (txns' : Txns) (same : (k : TxnKey) → id_at txns' k ≡ id_at txns k) (key' : Option TxnKey) (b' : Rooms) (spare' : Type 0) where
+module _ {writer : ℕ} {rs : List Room} {txns : TxnIndex} {key : Option TxnKey} {fresh : Option Standing} {spare : Type 0} {b : Rooms} (held : IsBook writer rs txns key fresh spare b)
+    (rs' : List Room) (kept : map bare rs' ≡ map bare rs) (txns' : TxnIndex) (same : (k : TxnKey) → id_at txns' k ≡ id_at txns k) (key' : Option TxnKey) (b' : Rooms) (spare' : Type 0) where
   waits_now : (es : List Event) → Waits writer rs' txns' key' None spare' es → b' ≡ record b { pending = es } → IsBook writer rs' txns' key' None spare' b'
   waits_now es waits is =
       let all : IsBook writer rs' txns' key' None spare' (record b { pending = es }) = record {
@@ -210,16 +211,16 @@ module _ {writer : ℕ} {rs : List Room} {txns : Txns} {key : Option TxnKey} {fr
   not_sent (Some k) h = same k ∙ h
 
   -- one event waits, in the room at an index
-  pub after_ready : (e : Event) (old : List Room) → old ≡ rs → (i : ℕ) → IsRoomAt writer old e.room i → ((d : Room) → (get_or rs' i d).state.room ≡ e ∷ [])
-      → txn_of key' ≡ e.txn → HasPlace txns' key' → sent_at txns key' ≡ None → b' ≡ record b { pending = e ∷ [] } → IsBook writer rs' txns' key' None spare' b'
-  after_ready e old was i at room named place first is =
+  pub after_ready : (e : Event) (old : List Room) → old ≡ rs → (i : ℕ) → IsRoomAt writer old e.room i → ((d : Room) → (get_or rs' i d).state.ready ≡ e ∷ [])
+      → txn_of key' ≡ e.txn → txns'.last ≡ None → sent_at txns key' ≡ None → b' ≡ record b { pending = e ∷ [] } → IsBook writer rs' txns' key' None spare' b'
+  after_ready e old was i at room named settled first is =
       let within : i < length rs' = subst (λ n. i < n) (ap length was ∙ sym size) at.within in
       let here : (get_or rs' i blank).at ≡ e.room.at = at_kept i blank ∙ (ap (λ l. (get_or l i blank).at) (sym was) ∙ at.here blank) in
       let waits : OneWaits writer rs' txns' key' e = record {
         writes = at.writes;
         room = ((get_or rs' i blank).state, state_of e.room.at rs' i blank (subst Rises (sym kept) held.rises) within here, room blank);
         named = named;
-        place = place;
+        settled = settled;
         first = not_sent key' first;
       } in waits_now (e ∷ []) waits is
 
@@ -227,7 +228,7 @@ module _ {writer : ℕ} {rs : List Room} {txns : Txns} {key : Option TxnKey} {fr
 pub bare_written : (n : ℕ) (xs ys : List Room) → n ≡ length ys → map bare xs ≡ map bare ys → map bare (take n (xs ++ drop (length xs) ys)) ≡ map bare ys
 bare_written n xs ys whole same = ap (map bare) (written n xs ys whole (sym (length-map xs bare) ∙ (ap length same ∙ length-map ys bare))) ∙ same
 
-pub room_written : (n : ℕ) (xs ys : List Room) → n ≡ length ys → map bare xs ≡ map bare ys → (i : ℕ) (room : List Event) → ((d : Room) → (get_or xs i d).state.room ≡ room)
-    → (d : Room) → (get_or (take n (xs ++ drop (length xs) ys)) i d).state.room ≡ room
-room_written n xs ys whole same i room is d =
-    ap (λ l. (get_or l i d).state.room) (written n xs ys whole (sym (length-map xs bare) ∙ (ap length same ∙ length-map ys bare))) ∙ is d
+pub ready_written : (n : ℕ) (xs ys : List Room) → n ≡ length ys → map bare xs ≡ map bare ys → (i : ℕ) (block : List Event) → ((d : Room) → (get_or xs i d).state.ready ≡ block)
+    → (d : Room) → (get_or (take n (xs ++ drop (length xs) ys)) i d).state.ready ≡ block
+ready_written n xs ys whole same i block is d =
+    ap (λ l. (get_or l i d).state.ready) (written n xs ys whole (sym (length-map xs bare) ∙ (ap length same ∙ length-map ys bare))) ∙ is d

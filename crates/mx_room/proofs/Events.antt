@@ -11,11 +11,12 @@ use Rattle.mx_room.specs.declared.admitted.Admitted.TheVariants as admitted
 use Rattle.mx_room.specs.declared.fault.RoomFault.{RoomFault}
 use Rattle.mx_room.specs.declared.fault.RoomFault.TheVariants as faults
 use Rattle.mx_room.specs.declared.rooms.Room.{Room}
+use Rattle.mx_room.specs.declared.txns.TxnIndex.{TxnIndex}
 use Rattle.mx_room.specs.declared.txns.TxnKey.{TxnKey}
 use Rattle.mx_room.specs.Admitting.{has_room, outcome, sent_in, unless_sent}
 use Rattle.mx_room.specs.Books.{Rooms, events_of, room_events}
 use Rattle.mx_room.specs.Held.{IsBook, IsRoomAt, Opens, bare, events_at, events_in, state_at}
-use Rattle.mx_room.specs.Keys.{Txns, sent_at, txn_of}
+use Rattle.mx_room.specs.Keys.{sent_at, txn_of}
 use Rattle.mx_room.proofs.Finding.{none_at, some_at}
 use Rattle.mx_room.proofs.Taking.{opened_at}
 
@@ -45,7 +46,7 @@ is_none (Some x) other = absurd (other x refl)
 
 -- ---- the events of a room
 
-module _ {writer : ℕ} {rs : List Room} {txns : Txns} {key : Option TxnKey} {fresh : Option Standing} {spare : Type 0} {b : Rooms} (held : IsBook writer rs txns key fresh spare b) (view : Rooms) (is : b ≡ view) where
+module _ {writer : ℕ} {rs : List Room} {txns : TxnIndex} {key : Option TxnKey} {fresh : Option Standing} {spare : Type 0} {b : Rooms} (held : IsBook writer rs txns key fresh spare b) (view : Rooms) (is : b ≡ view) where
   pub its_events : (room : RoomId) (old : List Room) → old ≡ rs → (es : List Event) → events_in writer (map bare old) room ≡ es → room_events view room ≡ es
   its_events room old was es h =
       ap (λ v. room_events v room) (sym is) ∙ (sym (held.same room) ∙ (ap (λ l. events_in writer (map bare l) room) (sym was) ∙ h))
@@ -80,7 +81,7 @@ module _ (e : Event) where
       ∙ ap₂ (λ es o. unless_sent e es o) is (sym sent)
 
 -- what becomes of an event of a room at an index
-pub found_outcome : {writer : ℕ} {rs : List Room} {txns : Txns} {key : Option TxnKey} {fresh : Option Standing} {spare : Type 0} {b : Rooms} → IsBook writer rs txns key fresh spare b
+pub found_outcome : {writer : ℕ} {rs : List Room} {txns : TxnIndex} {key : Option TxnKey} {fresh : Option Standing} {spare : Type 0} {b : Rooms} → IsBook writer rs txns key fresh spare b
     → (view : Rooms) → b ≡ view → (e : Event) (old : List Room) → old ≡ rs → (i : ℕ) → IsRoomAt writer old e.room i → (d r : Room) → r ≡ get_or rs i d
     → (k : Option TxnKey) → txn_of k ≡ e.txn → (s : Option EventId) → s ≡ sent_at txns k → outcome view e ≡ unless_sent e r.state.events s
 found_outcome {writer} {rs} held view is e old was i at d r here k named s sent =
@@ -91,12 +92,12 @@ found_outcome {writer} {rs} held view is e old was i at d r here k named s sent 
     outcome_found e view r opens position events s (sent ∙ its_sent held view is k e.txn named)
 
 -- it was sent before
-pub found_sent : {writer : ℕ} {rs : List Room} {txns : Txns} {key : Option TxnKey} {fresh : Option Standing} {spare : Type 0} {b : Rooms} → IsBook writer rs txns key fresh spare b
+pub found_sent : {writer : ℕ} {rs : List Room} {txns : TxnIndex} {key : Option TxnKey} {fresh : Option Standing} {spare : Type 0} {b : Rooms} → IsBook writer rs txns key fresh spare b
     → (view : Rooms) → b ≡ view → (e : Event) (old : List Room) → old ≡ rs → (i : ℕ) → IsRoomAt writer old e.room i
     → (k : Option TxnKey) → txn_of k ≡ e.txn → (id : EventId) → Some id ≡ sent_at txns k → outcome view e ≡ Ok (admitted.Repeat id)
 found_sent {rs = rs} held view is e old was i at k named id sent = found_outcome held view is e old was i at blank (get_or rs i blank) refl k named (Some id) sent where
   blank : Room
-  blank = record { at = 0; state = record { events = []; room = [] } }
+  blank = record { at = 0; state = record { events = []; ready = [] } }
 
 -- ---- whether a room is there
 
@@ -107,7 +108,7 @@ never_both : (b : Bool) → (b && false) ≡ false
 never_both true = refl
 never_both false = refl
 
-pub has_by_index : {writer : ℕ} {rs : List Room} {txns : Txns} {key : Option TxnKey} {fresh : Option Standing} {spare : Type 0} {b : Rooms} → IsBook writer rs txns key fresh spare b
+pub has_by_index : {writer : ℕ} {rs : List Room} {txns : TxnIndex} {key : Option TxnKey} {fresh : Option Standing} {spare : Type 0} {b : Rooms} → IsBook writer rs txns key fresh spare b
     → (view : Rooms) → b ≡ view → (room : RoomId) (old : List Room) → old ≡ rs → (o : Option ℕ)
     → MatchOption o (events_in writer (map bare old) room ≡ []) (λ i. IsRoomAt writer old room i) → is_some o ≡ has_room view room
 has_by_index held view is room old was None h = sym (by_events view room [] (its_events held view is room old was [] h) ∙ never_both (nat_lt 0 room.at))
@@ -120,7 +121,7 @@ has_by_index {rs = rs} held view is room old was (Some i) at =
     ∙ ap₂ (λ a b. a && b) (lt-ltb 0 room.at (subst (λ n. 0 < n) here opens.placed)) (some_of (get_or rs i blank).state.events opens.first opens.begins))
   where
     blank : Room
-    blank = record { at = 0; state = record { events = []; room = [] } }
+    blank = record { at = 0; state = record { events = []; ready = [] } }
 
     some_of : (es : List Event) (v : Event) → es ≡ v ∷ drop 1 es → nat_lt 0 (length es) ≡ true
     some_of [] v e = absurd cc

@@ -67,7 +67,7 @@ abbrev pub answered : Event → Option EventId → Admitted
 answered e None = admitted.Ready (record { event = e })
 answered e (Some id) = admitted.Repeat id
 
--- the block that there is room for after an answer
+-- the block that is ready after an answer
 abbrev pub ready_block : Admitted → List Event → List Event
 ready_block (admitted.Ready r) before = r.event ∷ []
 ready_block (admitted.Repeat id) before = before

@@ -11,7 +11,7 @@ pub record Rooms : Type 0 where
   pub writer : ℕ
   -- the writer's own stores, in their order
   pub stores : List (Stored Event)
-  -- the block that there is room for, whose events have no position yet; empty where there is none
+  -- the block that is ready, whose events have no position yet; empty where there is none
   pub pending : List Event
 
 abbrev pub no_rooms : ℕ → Rooms

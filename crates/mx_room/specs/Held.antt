@@ -7,13 +7,14 @@ use Rattle.mx_event.specs.Lawful.{placed_event}
 use Rattle.mx_event.specs.declared.event.Event.{Event}
 use Rattle.mx_auth.specs.Standing.{Standing}
 use Rattle.mx_room.specs.declared.rooms.Room.{Room}
+use Rattle.mx_room.specs.declared.txns.TxnIndex.{TxnIndex}
 use Rattle.mx_room.specs.declared.txns.TxnKey.{TxnKey}
 use Rattle.mx_room.specs.Admitting.{sent_in}
 use Rattle.mx_room.specs.Books.{Rooms, events_of, room_events}
 use Rattle.mx_room.specs.Creating.{IsNew}
-use Rattle.mx_room.specs.Keys.{Txns, HasPlace, id_at, sent_at, txn_of}
+use Rattle.mx_room.specs.Keys.{id_at, sent_at, txn_of}
 
--- a room without what it has room for: the position at which it was created, and its events
+-- a room without what is ready in it: the position at which it was created, and its events
 abbrev pub Bare : Type 0
 Bare = ℕ × List Event
 
@@ -43,7 +44,7 @@ pub record IsRoomAt (writer : ℕ) (rs : List Room) (room : RoomId) (i : ℕ) : 
 
 -- a room with a block more, which begins at a position
 abbrev pub after_block : ℕ → List Event → Room → Room
-after_block first es r = record { at = r.at; state = record { events = r.state.events ++ placed_from placed_event first first es; room = [] } }
+after_block first es r = record { at = r.at; state = record { events = r.state.events ++ placed_from placed_event first first es; ready = [] } }
 
 -- the rooms stand in the order of the positions at which they were created
 abbrev pub Rises : List Bare → Type 0
@@ -57,23 +58,23 @@ pub record Opens (r : Bare) : Type 0 where
   pub begins : r.1 ≡ first ∷ drop 1 r.1
   pub here : first.id.at ≡ r.0
 
--- an event waits for its position: there is room for it in its room, and for its transaction
-pub record OneWaits (writer : ℕ) (rs : List Room) (txns : Txns) (key : Option TxnKey) (e : Event) : Type 0 where
+-- an event waits for its position: it is ready in its room, and the index of transactions is settled
+pub record OneWaits (writer : ℕ) (rs : List Room) (txns : TxnIndex) (key : Option TxnKey) (e : Event) : Type 0 where
   pub writes : e.room.writer ≡ writer
-  pub room : (s : Standing) × (state_at e.room.at rs ≡ Some s) × (s.room ≡ e ∷ [])
+  pub room : (s : Standing) × (state_at e.room.at rs ≡ Some s) × (s.ready ≡ e ∷ [])
   pub named : txn_of key ≡ e.txn
-  pub place : HasPlace txns key
+  pub settled : txns.last ≡ None
   pub first : sent_at txns key ≡ None
 
--- the pending block waits for its position; `spare` says that there is room for one room more
-abbrev pub Waits : ℕ → List Room → Txns → Option TxnKey → Option Standing → Type 0 → List Event → Type 0
-Waits writer rs txns key (Some s) spare es = (s.events ≡ []) × (s.room ≡ es) × AllByRecursion (IsNew writer) es × spare
+-- the pending block waits for its position; `spare` says that one room more takes no memory
+abbrev pub Waits : ℕ → List Room → TxnIndex → Option TxnKey → Option Standing → Type 0 → List Event → Type 0
+Waits writer rs txns key (Some s) spare es = (s.events ≡ []) × (s.ready ≡ es) × AllByRecursion (IsNew writer) es × spare
 Waits writer rs txns key None spare [] = Unit {0}
 Waits writer rs txns key None spare (e ∷ []) = OneWaits writer rs txns key e
 Waits writer rs txns key None spare (e ∷ f ∷ es) = ⊥
 
 -- what the fields of a book say of its rooms
-pub record IsBook (writer : ℕ) (rs : List Room) (txns : Txns) (key : Option TxnKey) (fresh : Option Standing) (spare : Type 0) (b : Rooms) : Type 0 where
+pub record IsBook (writer : ℕ) (rs : List Room) (txns : TxnIndex) (key : Option TxnKey) (fresh : Option Standing) (spare : Type 0) (b : Rooms) : Type 0 where
   pub writes : writer ≡ b.writer
   pub rises : Rises (map bare rs)
   pub opens : AllByRecursion Opens (map bare rs)

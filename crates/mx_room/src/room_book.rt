@@ -15,26 +15,24 @@ use crate::admitted::{Admitted, Ready};
 use crate::fault::RoomFault;
 use crate::judged::judge;
 use crate::ledger::Ledger;
-use crate::rooms::{Room, index_of, make_room_for, make_room_in, take_all, take_all_in};
-use crate::txns::{TxnKey, key_of, make_place, sent, set_sent};
+use crate::rooms::{Room, index_of, make_all_ready, make_one_ready, take_all, take_all_in};
+use crate::txns::{TxnIndex, TxnKey, key_of};
 use mx_auth::AuthState;
 use mx_core::Prepared;
 use mx_event::{Draft, Event};
 use mx_ids::{EventId, Memory, RoomId, Seq, Text, UserId};
 use std::alloc::Global;
-use std::collections::BTreeMap;
 use std::marker::Model;
 
-/// The rooms of one writer after its own stores. Contracts see it as these stores, and beside them as the block that it has
-/// room for; it holds the states of the rooms and an index of the transactions alone.
+/// The rooms of one writer after its own stores. Contracts see it as these stores, and beside them as the block that is
+/// ready to be stored; it holds the states of the rooms and an index of the transactions alone.
 #[derive(Drop)]
 pub struct RoomBook {
     alloc: Global,
     writer: u8,
     /// The rooms, in the order of the positions at which they were created.
     rooms: Vec<Room>,
-    /// The event of each transaction. A transaction without one has a place here, which was made for it.
-    txns: BTreeMap<TxnKey, Option<EventId>>,
+    txns: TxnIndex,
     /// The transaction of the pending event.
     key: Option<TxnKey>,
     /// The state of the room that the pending block creates.
@@ -67,7 +65,7 @@ pub fn book(alloc: Global, writer: u8) -> Result<RoomBook, Memory>
         alloc,
         writer,
         rooms: Vec::new(alloc),
-        txns: BTreeMap::new(alloc),
+        txns: TxnIndex::new(alloc),
         key: None,
         fresh: None,
         ledger: Ledger::empty(&writer),
@@ -98,7 +96,7 @@ impl RoomBook {
         find_room(self.rooms.as_slice(), self.writer, room).is_some()
     }
 
-    /// What becomes of a draft: an event that may be stored, and for which room is made, or the id of the event that the
+    /// What becomes of a draft: an event that may be stored, and is ready, or the id of the event that the
     /// device sent before in the same transaction. A refusal leaves the rooms as they were. It costs a look for the room and
     /// for the transaction, the rules, and the copies of what the event sets.
     pub fn admit(&mut self, draft: Draft) -> Result<Admitted, RoomFault>
@@ -114,7 +112,7 @@ impl RoomBook {
         }
     }
 
-    /// Makes room for an event, or answers the id of the event that the device sent before in the same transaction.
+    /// Readies an event, or answers the id of the event that the device sent before in the same transaction.
     fn ready_one(&mut self, event: &Event) -> Result<Option<EventId>, RoomFault>
         ensures found { IfOk result (λ sent. outcome self.old event.now ≡ Ok (answered event.now sent)) }
         ensures refused { IfErr result (λ f. (f ≡ faults.Memory) ⊎ (outcome self.old event.now ≡ Err f)) }
@@ -125,20 +123,20 @@ impl RoomBook {
             return Err(RoomFault::NoRoom);
         };
         let key = key_of(self.alloc, &event.txn)?;
-        if let Some(id) = sent(&self.txns, &key) {
+        if let Some(id) = self.txns.sent(&key) {
             return Ok(Some(id));
         }
         judge(event, &self.rooms[index].state)?;
         self.fresh = None;
         self.ledger = Ledger::without_block(&self.ledger);
-        make_place(self.alloc, &mut self.txns, &key)?;
-        make_room_in(self.rooms.as_mut_slice(), index, event)?;
+        self.txns.settle()?;
+        make_one_ready(self.rooms.as_mut_slice(), index, event)?;
         self.key = key;
         self.ledger = Ledger::with(&self.ledger, event);
         Ok(None)
     }
 
-    /// Makes room for a block that creates a room of this writer. `Memory` where an allocation that it needs is refused.
+    /// Readies a block that creates a room of this writer. `Memory` where an allocation that it needs is refused.
     /// The rooms are as they were.
     pub fn ready_room(&mut self, events: &Seq<Event>) -> Result<(), Memory>
         requires some { 0 < length events.now }
@@ -149,7 +147,7 @@ impl RoomBook {
         self.drop_block();
         let mut state = AuthState::empty(self.alloc);
         let mut ledger = Ledger::without_block(&self.ledger);
-        make_room_for(&mut state, &mut ledger, events.as_slice())?;
+        make_all_ready(&mut state, &mut ledger, events.as_slice())?;
         self.rooms.reserve(1)?;
         self.fresh = Some(state);
         self.ledger = ledger;
@@ -170,7 +168,7 @@ impl RoomBook {
             None => {
                 if let Some(index) = index_of(self.rooms.as_slice(), events[0].room.at) {
                     take_all_in(self.rooms.as_mut_slice(), index, events, first);
-                    set_sent(&mut self.txns, &self.key, EventId { at: first });
+                    self.txns.put(self.key.take(), EventId { at: first });
                 }
             }
         }
@@ -209,9 +207,9 @@ fn find_room(rooms: &[Room], writer: u8, room: &RoomId) -> Option<usize>
 /// Puts a room more at the end, with its first events as they stand from a position on. Takes no memory.
 fn put_room(rooms: &mut Vec<Room>, mut state: AuthState, events: &[Event], first: u64)
     requires spare { vec_len rooms.old < vec_capacity rooms.old }
-    requires room { state.room ≡ events.now }
+    requires ready { state.ready ≡ events.now }
     requires last { first + length events.now < 2 ^ 48 + 1 }
-    ensures { rooms.new.items ≡ rooms.old.items ++ record { at = first; state = record { events = state.events ++ placed_from placed_event first first events.now; room = [] } } ∷ [] }
+    ensures { rooms.new.items ≡ rooms.old.items ++ record { at = first; state = record { events = state.events ++ placed_from placed_event first first events.now; ready = [] } } ∷ [] }
 {
     take_all(&mut state, events, first);
     rooms.push(Room { at: first, state }).unwrap();

@@ -30,27 +30,27 @@ pub(crate) fn index_of(rooms: &[Room], at: u64) -> Option<usize>
     }
 }
 
-/// Makes room for events in a state, and notes them as pending.
-pub(crate) fn make_room_for(
+/// Readies events in a state, and notes them as pending.
+pub(crate) fn make_all_ready(
     state: &mut AuthState,
     ledger: &mut Ledger,
     events: &[Event],
 ) -> Result<(), Memory>
-    ensures state { OnOk result (state.new ≡ record state.old { room = state.old.room ++ events.now }) }
+    ensures state { OnOk result (state.new ≡ record state.old { ready = state.old.ready ++ events.now }) }
     ensures pending { OnOk result (ledger.new.rooms ≡ record ledger.old.rooms { pending = ledger.old.rooms.pending ++ events.now }) }
 {
     'events: for event in events {
-        state.make_room(event)?;
+        state.make_ready(event)?;
         *ledger = Ledger::with(ledger, event);
     }
     Ok(())
 }
 
-/// Takes in the events that a state has room for, as they stand from a position on. Takes no memory.
+/// Takes in the events that are ready in a state, as they stand from a position on. Takes no memory.
 pub(crate) fn take_all(state: &mut AuthState, events: &[Event], first: u64)
-    requires room { state.old.room ≡ events.now }
+    requires ready { state.old.ready ≡ events.now }
     requires last { first + length events.now < 2 ^ 48 + 1 }
-    ensures { state.new ≡ record { events = state.old.events ++ placed_from placed_event first first events.now; room = [] } }
+    ensures { state.new ≡ record { events = state.old.events ++ placed_from placed_event first first events.now; ready = [] } }
 {
     let mut at = first;
     'events: for event in events {
@@ -59,21 +59,21 @@ pub(crate) fn take_all(state: &mut AuthState, events: &[Event], first: u64)
     }
 }
 
-/// Makes room for one event alone in a room. `Memory` leaves the events of each room.
-pub(crate) fn make_room_in(rooms: &mut [Room], index: usize, event: &Event) -> Result<(), Memory>
+/// Readies one event alone in a room. `Memory` leaves the events of each room.
+pub(crate) fn make_one_ready(rooms: &mut [Room], index: usize, event: &Event) -> Result<(), Memory>
     requires { index < length rooms.old }
-    ensures room { OnOk result ((d : Room) → (slice_index_or rooms.new index d).state.room ≡ event.now ∷ []) }
+    ensures ready { OnOk result ((d : Room) → (slice_index_or rooms.new index d).state.ready ≡ event.now ∷ []) }
     ensures same { map bare rooms.new ≡ map bare rooms.old }
 {
     let room = &mut rooms[index];
-    room.state.drop_room();
-    room.state.make_room(event)
+    room.state.drop_ready();
+    room.state.make_ready(event)
 }
 
-/// Takes in the events that a room has room for, as they stand from a position on. Takes no memory.
+/// Takes in the events that are ready in a room, as they stand from a position on. Takes no memory.
 pub(crate) fn take_all_in(rooms: &mut [Room], index: usize, events: &[Event], first: u64)
     requires index { index < length rooms.old }
-    requires room { (d : Room) → (slice_index_or rooms.old index d).state.room ≡ events.now }
+    requires ready { (d : Room) → (slice_index_or rooms.old index d).state.ready ≡ events.now }
     requires last { first + length events.now < 2 ^ 48 + 1 }
     ensures { (d : Room) → rooms.new ≡ slice_set rooms.old index (after_block first events.now (slice_index_or rooms.old index d)) }
 {

@@ -1,10 +1,9 @@
 //! The transactions in which a writer's events were sent.
-ghost use Rattle.std.specs.Prelude.{◌≡◌, Some, IfOk, OnOk, if◌then◌else◌, refl};
+ghost use Rattle.std.specs.Prelude.{◌≡◌, None, IfOk, OnOk, refl};
 ghost use Rattle.std.specs.Cmp.{eq_by_cmp_equiv, partial_equiv_from_equiv, partial_order_from_total};
 ghost use Rattle.std.specs.Ordering.{as_partial_cmp, eq_by_cmp};
-ghost use Rattle.mx_ids.specs.declared.event_id.EventId.{EventId};
 ghost use Rattle.mx_room.specs.declared.txns.TxnKey.{TxnKey};
-ghost use Rattle.mx_room.specs.Keys.{id_after, id_at, key_cmp, key_total, sent_at, txn_of, HasPlace, HasPlaceAt};
+ghost use Rattle.mx_room.specs.Keys.{id_after, id_at, key_cmp, key_total, sent_at, txn_of};
 
 use mx_event::Txn;
 use mx_ids::{Copied, EventId, Memory};
@@ -74,73 +73,75 @@ pub(crate) fn key_of(alloc: Global, txn: &Option<Txn>) -> Result<Option<TxnKey>,
     }
 }
 
-/// The event that was sent in a transaction. Logarithmic in the number of transactions.
-pub(crate) fn sent(
-    txns: &BTreeMap<TxnKey, Option<EventId>>,
-    key: &Option<TxnKey>,
-) -> Option<EventId>
-    ensures { result ≡ sent_at txns.now key.now }
-{
-    match key {
-        Some(key) => match txns.get(key) {
-            Some(id) => *id,
+/// A transaction, and the event that was sent in it.
+#[derive(Drop)]
+pub(crate) struct SentTxn {
+    pub(crate) key: TxnKey,
+    pub(crate) id: EventId,
+}
+
+/// The event of each transaction. The last one stands beside the others until memory may be taken.
+#[derive(Drop)]
+pub(crate) struct TxnIndex {
+    pub(crate) earlier: BTreeMap<TxnKey, EventId>,
+    pub(crate) last: Option<SentTxn>,
+}
+
+impl TxnIndex {
+    /// No transaction. Takes no memory.
+    pub(crate) fn new(alloc: Global) -> TxnIndex
+        ensures { (k : TxnKey) → id_at result k ≡ None }
+    {
+        TxnIndex {
+            earlier: BTreeMap::new(alloc),
+            last: None,
+        }
+    }
+
+    /// The event that was sent in a transaction, if there is one. Logarithmic in the number of transactions.
+    pub(crate) fn sent(&self, key: &Option<TxnKey>) -> Option<EventId>
+        ensures { result ≡ sent_at self.now key.now }
+    {
+        match key {
+            Some(key) => self.id_at(key),
             None => None,
-        },
-        None => None,
+        }
     }
-}
 
-/// Makes a place for the event of a transaction, so that setting it takes no memory. What was sent stays.
-pub(crate) fn make_place(
-    alloc: Global,
-    txns: &mut BTreeMap<TxnKey, Option<EventId>>,
-    key: &Option<TxnKey>,
-) -> Result<(), Memory>
-    ensures place { OnOk result (HasPlace txns.new key.now) }
-    ensures same { (k : TxnKey) → id_at txns.new k ≡ id_at txns.old k }
-{
-    match key {
-        Some(key) => make_place_at(alloc, txns, key),
-        None => Ok(()),
+    fn id_at(&self, key: &TxnKey) -> Option<EventId>
+        ensures { result ≡ id_at self.now key.now }
+    {
+        match &self.last {
+            Some(last) if last.key == *key => Some(last.id),
+            _ => self.earlier.get(key).copied(),
+        }
     }
-}
 
-fn make_place_at(
-    alloc: Global,
-    txns: &mut BTreeMap<TxnKey, Option<EventId>>,
-    key: &TxnKey,
-) -> Result<(), Memory>
-    ensures place { OnOk result (HasPlaceAt txns.new key.now) }
-    ensures same { (k : TxnKey) → id_at txns.new k ≡ id_at txns.old k }
-{
-    if !txns.contains_key(key) {
-        let copy = TxnKey {
-            txn: key.txn.copy(alloc)?,
+    /// Puts the last transaction among the others. `Memory` where the allocator refuses. What was sent stays.
+    pub(crate) fn settle(&mut self) -> Result<(), Memory>
+        ensures settled { OnOk result (self.new.last ≡ None) }
+        ensures same { (k : TxnKey) → id_at self.new k ≡ id_at self.old k }
+    {
+        let Some(last) = self.last.take() else {
+            return Ok(());
         };
-        txns.insert(copy, None)?;
+        match self.earlier.insert(last.key, last.id) {
+            Ok(_) => Ok(()),
+            Err(refused) => {
+                let (key, id) = refused.value;
+                self.last = Some(SentTxn { key, id });
+                Err(Memory)
+            }
+        }
     }
-    Ok(())
-}
 
-/// Sets the event of a transaction for which there is a place. Takes no memory.
-pub(crate) fn set_sent(
-    txns: &mut BTreeMap<TxnKey, Option<EventId>>,
-    key: &Option<TxnKey>,
-    id: EventId,
-)
-    requires { HasPlace txns.old key.now }
-    ensures { (k : TxnKey) → id_at txns.new k ≡ id_after key.now id k (id_at txns.old k) }
-{
-    if let Some(key) = key {
-        set_sent_at(txns, key, id);
-    }
-}
-
-fn set_sent_at(txns: &mut BTreeMap<TxnKey, Option<EventId>>, key: &TxnKey, id: EventId)
-    requires { HasPlaceAt txns.old key.now }
-    ensures { (k : TxnKey) → id_at txns.new k ≡ (if eq_by_cmp key_cmp key.now k then Some id else id_at txns.old k) }
-{
-    if let Some(place) = txns.get_mut(key) {
-        *place = Some(id);
+    /// Sets the event of a transaction, once the others are settled. Takes no memory.
+    pub(crate) fn put(&mut self, key: Option<TxnKey>, id: EventId)
+        requires { self.old.last ≡ None }
+        ensures { (k : TxnKey) → id_at self.new k ≡ id_after key id k (id_at self.old k) }
+    {
+        if let Some(key) = key {
+            self.last = Some(SentTxn { key, id });
+        }
     }
 }

@@ -225,6 +225,8 @@ fn a_block_has_at_most_256_events(rt: HostRuntime) {
     assert_eq!(rt; count(&rt, alloc, "]}"), Ok(256));
     let over = count(&rt, alloc, r#"],"name":"N"}"#);
     assert_eq!(rt; over, Err(CreateFault::TooMany));
+    let unknown = count(&rt, alloc, r#"],"invite":["@carol:x"]}"#);
+    assert_eq!(rt; unknown, Err(CreateFault::NoUser));
 }
 
 #[test]
@@ -282,6 +284,11 @@ fn a_room_may_be_refused(rt: HostRuntime) {
         CreateFault::State(10),
     );
     let start = r#"{"initial_state":[{"type":"a","content":{"x":""#;
+    let body = repeated(&rt, alloc, start, "sixteen letters.", 4096, r#""}}]}"#);
+    refuses(&rt, alloc, body.as_str(), CreateFault::TooLarge);
+    // too large, though a rule refuses another event
+    let start =
+        r#"{"initial_state":[{"type":"m.room.create","content":{}},{"type":"a","content":{"x":""#;
     let body = repeated(&rt, alloc, start, "sixteen letters.", 4096, r#""}}]}"#);
     refuses(&rt, alloc, body.as_str(), CreateFault::TooLarge);
 }

@@ -34,6 +34,12 @@ const REDACTIONS: &str = r#"[
     ["m.room.power_levels",{"ban":50,"invite":0,"notifications":{},"users":{"@a:b":9}},{"ban":50,"invite":0,"users":{"@a:b":9}}],
     ["m.room.history_visibility",{"history_visibility":"shared"},{"history_visibility":"shared"}],
     ["m.room.redaction",{"reason":"spam","redacts":"$6:a"},{"redacts":"$6:a"}],
+    ["m.room.member",{"join_authorised_via_users_server":"@a:b","reason":"r"},{"join_authorised_via_users_server":"@a:b"}],
+    ["m.room.power_levels",{"events":{"a":1},"events_default":2,"kick":3},{"events":{"a":1},"events_default":2,"kick":3}],
+    ["m.room.power_levels",{"redact":4,"state_default":5,"users_default":6},{"redact":4,"state_default":5,"users_default":6}],
+    ["m.room.join_rules",{"history_visibility":"shared","membership":"join"},{}],
+    ["m.room.history_visibility",{"join_rule":"public","redacts":"$6:a"},{}],
+    ["m.room.name",{"name":"N"},{}],
     ["m.room.message",{"body":"hi"},{}],
     ["m.room.message",[1],{}]]"#;
 

@@ -34,6 +34,14 @@ pub fn user_in(rt: &impl Abort, alloc: Global, row: &Json, index: usize) -> User
     user_id(text_in(rt, alloc, row, index)).expect(rt, "a user id")
 }
 
+/// The state key of a row, or none where `null` stands.
+pub fn key_in(rt: &impl Abort, alloc: Global, row: &Json, index: usize) -> Option<Text> {
+    match at(rt, row, index).as_text() {
+        Some(key) => Some(key.copy(alloc).expect(rt, "memory")),
+        None => None,
+    }
+}
+
 pub fn number_in(rt: &impl Abort, row: &Json, index: usize) -> i64 {
     at(rt, row, index).as_int().expect(rt, "a number")
 }

@@ -1,6 +1,6 @@
 use Rattle.std.proofs.Common.{◌≡◌, ◌++◌, map, take}
-use Rattle.mx_create.specs.Blocks.{initial}
+use Rattle.mx_create.specs.Blocks.{creating, initial}
 use Rattle.mx_create.proofs.creation.push_initial.Given as goal
 
 abbrev pub invariant-entries : goal.invariant-entries
-invariant-entries l = l.all.items ≡ l.initial.all.items ++ map (initial (record { creator = l.creator; ts = l.ts })) (take l.entry-index l.entry-items)
+invariant-entries l = l.all.items ≡ l.initial.all.items ++ map (initial (creating l.by)) (take l.entry-index l.entry-items)

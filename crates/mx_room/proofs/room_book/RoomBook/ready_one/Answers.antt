@@ -3,7 +3,7 @@ use Rattle.std.proofs.lemmas.Result.{err_from_is_err_and}
 use Rattle.mx_room.specs.Admitting.{unless_refused}
 use Rattle.mx_room.specs.Books.{Rooms}
 use Rattle.mx_room.specs.Held.{bare}
-use Rattle.mx_room.proofs.Books.{after_drop, after_ready, bare_written, room_written}
+use Rattle.mx_room.proofs.Books.{after_drop, after_ready, bare_written, ready_written}
 use Rattle.mx_room.proofs.Events.{found_outcome, found_sent, is_none}
 use Rattle.mx_room.proofs.room_book.RoomBook.ready_one.Goals as goal
 
@@ -22,21 +22,21 @@ returns-in_err-judge-clause-refused c =
     ∙ ap (unless_refused c.args.event.now) c.in_err-judge.ensures))
 
 pub invariant_of-self : goal.invariant_of-self
-invariant_of-self c = after_drop c.self.invariant _ refl _ c.make_place.ensures.same _ _ _ c.without_block-self-inside.ensures
+invariant_of-self c = after_drop c.self.invariant _ refl _ c.settle.ensures.same _ _ _ c.without_block-self-inside.ensures
 
-pub invariant_of-self-in_err-make_room_in : goal.invariant_of-self-in_err-make_room_in
-invariant_of-self-in_err-make_room_in c =
+pub invariant_of-self-in_err-make_one_ready : goal.invariant_of-self-in_err-make_one_ready
+invariant_of-self-in_err-make_one_ready c =
     after_drop c.self.invariant _
-    (bare_written _ _ _ c.self.inside.rooms.ok.0 (c.make_room_in.ensures.same ∙ ap (map bare) c.as_mut_slice.ensures.value))
-    _ c.make_place.ensures.same _ _ _ c.without_block-self-inside.ensures
+    (bare_written _ _ _ c.self.inside.rooms.ok.0 (c.make_one_ready.ensures.same ∙ ap (map bare) c.as_mut_slice.ensures.value))
+    _ c.settle.ensures.same _ _ _ c.without_block-self-inside.ensures
 
 pub invariant_of-self-2 : goal.invariant_of-self-2
 invariant_of-self-2 c =
     after_ready c.self.invariant _
-    (bare_written _ _ _ c.self.inside.rooms.ok.0 (c.make_room_in.ensures.same ∙ ap (map bare) c.as_mut_slice.ensures.value))
-    _ c.make_place.ensures.same _ _ _ c.args.event.now c.as_slice.result.now c.as_slice.ensures.value c.in-Some.index c.in-Some.ensures
-    (room_written _ _ _ c.self.inside.rooms.ok.0 (c.make_room_in.ensures.same ∙ ap (map bare) c.as_mut_slice.ensures.value) c.in-Some.index _ c.in_ok-make_room_in.ensures.room)
-    c.in_ok-key.ensures c.in_ok-make_place.ensures.place (sym c.sent.ensures ∙ is_none c.sent.result c.in_default-sent.not-Some)
+    (bare_written _ _ _ c.self.inside.rooms.ok.0 (c.make_one_ready.ensures.same ∙ ap (map bare) c.as_mut_slice.ensures.value))
+    _ c.settle.ensures.same _ _ _ c.args.event.now c.as_slice.result.now c.as_slice.ensures.value c.in-Some.index c.in-Some.ensures
+    (ready_written _ _ _ c.self.inside.rooms.ok.0 (c.make_one_ready.ensures.same ∙ ap (map bare) c.as_mut_slice.ensures.value) c.in-Some.index _ c.in_ok-make_one_ready.ensures.ready)
+    c.in_ok-key.ensures c.in_ok-settle.ensures.settled (sym c.sent.ensures ∙ is_none c.sent.result c.in_default-sent.not-Some)
     (c.with-self-inside.ensures ∙ ap (λ (b : Rooms). record b { pending = b.pending ++ c.args.event.now ∷ [] }) c.without_block-self-inside.ensures)
 
 pub returns-clause-found : goal.returns-clause-found
