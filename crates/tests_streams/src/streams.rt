@@ -1,6 +1,6 @@
 //! A running stream: three writers with the stop 4, a stream that gets full, and two threads that write at once.
 
-ghost use Rattle.std.specs.Prelude.{◌≡◌, ◌≤◌, [], ◌∷◌, None, IfOk, length};
+ghost use Rattle.std.specs.Prelude.{◌≡◌, [], ◌∷◌, None, IfOk, length};
 ghost use Rattle.mx_front.specs.Shown.{place_of, writers_of, place_of_pen, place_of_pass, known};
 ghost use Rattle.mx_front.specs.Start.{IsNewPen, AreNewPens};
 ghost use Rattle.mx_front.specs.Told.{block_at};
@@ -323,8 +323,14 @@ fn later_parts_share_the_segments_of_earlier_ones(rt: HostRuntime) {
     let before = after_blocks(&rt, alloc, &stream, &mut first, &mut pass, 3);
     let after = after_blocks(&rt, alloc, &stream, &mut first, &mut pass, 2);
     assert_eq!(rt; (before.front(), after.front()), (768, 1280));
-    assert_eq!(rt; (value_at(&before, 768), value_at(&before, 769)), (Some(255), None));
-    assert_eq!(rt; (value_at(&after, 1024), value_at(&after, 1025)), (Some(255), Some(0)));
+    assert_eq!(rt;
+        (value_at(&before, 768), value_at(&before, 769)),
+        (Some(255), None)
+    );
+    assert_eq!(rt;
+        (value_at(&after, 1024), value_at(&after, 1025)),
+        (Some(255), Some(0))
+    );
 }
 
 /// A pen of a stream without a block.

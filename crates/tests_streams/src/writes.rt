@@ -75,7 +75,10 @@ fn expect_write_in<R: Wait + Abort>(
     ensures { place_of_shard shard.new ≡ place_of_shard shard.old }
 {
     let mut watch = Watch::new(&Open);
-    assert_eq!(rt; write_in(rt, alloc, stream, shard, draft, &mut watch), answer);
+    assert_eq!(rt;
+        write_in(rt, alloc, stream, shard, draft, &mut watch),
+        answer
+    );
 }
 
 fn expect_own_stores<R: Wait + Abort>(
