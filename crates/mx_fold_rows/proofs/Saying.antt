@@ -1,12 +1,12 @@
 -- The contents of the rows' events say what their transactions repeat.
-use Rattle.std.proofs.Common.{drop, ◌≡◌, List, [], ◌∷◌, ℕ, ◌^◌, ◌-◌, Option, Some, None, cond, option_and_then, option_map, unwrap_or, true, codes, refl, ap, ◌∙◌, false, sym, ◌++◌}
+use Rattle.std.proofs.Common.{drop, ◌≡◌, List, [], ◌∷◌, ℕ, ◌^◌, ◌-◌, Option, Some, None, cond, option_and_then, option_map, unwrap_or, true, codes, refl, ap, ◌∙◌, false, sym}
 use Rattle.std.specs.List.{AllByRecursion}
 use Rattle.std.specs.Str.{bytes_eq}
 use Rattle.mx_window.proofs.Each.{AllByRecursion-append}
 use Rattle.mx_ids.specs.Ids.{event_id_at}
 use Rattle.mx_ids.specs.User.{server_of}
 use Rattle.mx_ids.specs.declared.event_id.EventId.{EventId}
-use Rattle.mx_json.specs.Fields.{text_at, text_in, text_of, members_of}
+use Rattle.mx_json.specs.Fields.{text_at, text_in, text_of}
 use Rattle.mx_json.specs.Keys.{value_at}
 use Rattle.mx_json.specs.declared.members.Member.{Member}
 use Rattle.mx_json.specs.declared.value.Json.{Json}
@@ -16,7 +16,6 @@ use Rattle.mx_json.specs.declared.value.Json.TheViews.{outs-Text}
 use Rattle.mx_event.proofs.Texts.{members_of-Object}
 use Rattle.mx_folding.specs.Visible.{SharedSince}
 use Rattle.mx_view.specs.Readings.{contents, membership_as, setting_as}
-use Rattle.mx_view.specs.Reads.{ReadAlike}
 use Rattle.mx_fold_rows.specs.Events.{alice, bob, carol, with_text, event_at, member, setting, redaction, joins_named, private_room, joined_room, long_room, left_room, shared_room, hidden_room, renamed_room, redacted_room, three_users}
 use Rattle.mx_fold_rows.specs.Said.{said, Says, SaysMembership, SaysSetting, SaysNames, RoomsSay}
 
