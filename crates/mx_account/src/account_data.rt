@@ -1,6 +1,6 @@
 //! The account data that stores of entries set.
 
-ghost use Rattle.std.specs.Prelude.{◌≡◌, IfOk, OnOk, filter, fold, map, if◌then◌else◌};
+ghost use Rattle.std.specs.Prelude.{◌≡◌, IfOk, OnOk, drop, filter, fold, map, if◌then◌else◌};
 ghost use Rattle.std.specs.Option.{option_copied};
 ghost use Rattle.mx_core.specs.History.{items_of};
 ghost use Rattle.mx_account.specs.Entries.{is_of, pair_now};
@@ -10,6 +10,7 @@ use crate::entry::Entry;
 use mx_core::Stored;
 use mx_ids::{Copied, Memory, RoomId, Seq, Text, UserId};
 use mx_json::Json;
+use mx_lanes::Parts;
 use std::alloc::Global;
 use std::collections::BTreeMap;
 
@@ -29,6 +30,30 @@ pub fn data_of(
     let mut latest: BTreeMap<&Text, &Json> = BTreeMap::new(alloc);
     'stores: for store in stores {
         set_entries(&mut latest, user, wanted, store.items.as_slice())?;
+    }
+    copies(alloc, &latest)
+}
+
+/// A user's account data of a room, or its global ones where there is no room, as the entries at the positions after one
+/// set them: under each type the last content, in byte order of types (Client-Server API, Client Config). Each content that
+/// is answered is copied once; the time is in the number of these entries.
+pub fn data_after(
+    alloc: Global,
+    user: &UserId,
+    room: Option<&RoomId>,
+    list: &Parts<Entry>,
+    position: u64,
+) -> Result<Seq<(Text, Json)>, Memory>
+    ensures { IfOk result (λ made. made ≡ data_of user.now (option_copied room.entry) (drop position list.now.items)) }
+{
+    let wanted = room.copied();
+    let mut latest: BTreeMap<&Text, &Json> = BTreeMap::new(alloc);
+    let mut at = position;
+    'entries: while at < list.front() {
+        at += 1;
+        if let Some(entry) = list.at(at) {
+            set_entry(&mut latest, user, wanted, entry)?;
+        }
     }
     copies(alloc, &latest)
 }

@@ -5,6 +5,6 @@ mod account_data;
 mod entry;
 mod values;
 
-pub use account_data::data_of;
+pub use account_data::{data_after, data_of};
 pub use entry::Entry;
 pub use values::value;

@@ -15,10 +15,14 @@ abbrev pub IsStep : {I : Type 0} → State I → Step I → Type 0
 IsStep s (Draw writer count) = (writer < length s.held) × (0 < count)
 IsStep s (Store writer items) = writer < length s.held
 
--- a step leads from one state to another: a draw by a writer that holds nothing, below the limit, or a store by a writer that holds a block of as many positions
+-- a step leads from one state to another: a draw by a writer that holds nothing, below the limit, or a store by a writer that holds a
+-- block of as many positions
 abbrev pub Takes : {I : Type 0} → State I → Step I → State I → Type 0
-Takes old (Draw writer count) new = IsStep old (Draw writer count) × (block_of old writer ≡ None) × (old.next + count < old.limit) × (new ≡ drawn old writer count)
-Takes old (Store writer items) new = IsStep old (Store writer items) × ((b : Block) × (block_of old writer ≡ Some b) × (b.count ≡ length items) × (new ≡ stored old writer b.first items))
+Takes old (Draw writer count) new =
+    IsStep old (Draw writer count) × (block_of old writer ≡ None) × (old.next + count < old.limit) × (new ≡ drawn old writer count)
+Takes old (Store writer items) new =
+    IsStep old (Store writer items)
+    × ((b : Block) × (block_of old writer ≡ Some b) × (b.count ≡ length items) × (new ≡ stored old writer b.first items))
 
 -- a step that was taken, with its answer
 abbrev pub Moves : {I : Type 0} → State I → Step I → Moved → State I → Type 0
@@ -32,6 +36,7 @@ abbrev pub IsRefused : {I : Type 0} → State I → Step I → StepFault → Typ
 IsRefused s (Draw writer count) (AlreadyDrawn first) = (b : Block) × (block_of s writer ≡ Some b) × (first ≡ b.first)
 IsRefused s (Draw writer count) (AtLimit next) = (block_of s writer ≡ None) × (s.limit ≤ s.next + count) × (next ≡ s.next)
 IsRefused s (Store writer items) NothingDrawn = block_of s writer ≡ None
-IsRefused s (Store writer items) (WrongCount drawn given) = (b : Block) × (block_of s writer ≡ Some b) × (b.count ≢ length items) × (drawn ≡ b.count) × (given ≡ length items)
+IsRefused s (Store writer items) (WrongCount drawn given) =
+    (b : Block) × (block_of s writer ≡ Some b) × (b.count ≢ length items) × (drawn ≡ b.count) × (given ≡ length items)
 IsRefused s (Store writer items) Memory = (b : Block) × (block_of s writer ≡ Some b) × (b.count ≡ length items)
 IsRefused s step fault = ⊥

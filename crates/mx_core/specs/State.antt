@@ -24,7 +24,10 @@ drawn s writer count = record s { next = s.next + count; held = slice_set s.held
 
 -- after a store
 abbrev pub stored : {I : Type 0} → State I → ℕ → ℕ → List I → State I
-stored s writer first items = record s { held = slice_set s.held writer None; history = s.history ++ record { writer = writer; first = first; items = items } ∷ [] }
+stored s writer first items = record s {
+  held = slice_set s.held writer None;
+  history = s.history ++ record { writer = writer; first = first; items = items } ∷ [];
+}
 
 -- how many positions a writer holds, and how many all writers hold
 abbrev pub count_of : Option Block → ℕ

@@ -39,7 +39,8 @@ pub record OneHistory {I : Type 0} (law : Law I) (words : List ℕ) (views : Lis
   -- what each seat has seen begins it
   pub seen : (j : ℕ) (v : View I) → get_elem? views j ≡ maybe.some v → Begins v.seen state.history
   -- no block that is held lies at or below the front of what a seat has seen
-  pub covers : (j : ℕ) (v : View I) (front k : ℕ) (b : Block) → get_elem? views j ≡ maybe.some v → IsFront v.seen front → block_of state k ≡ Some b → front < b.first
+  pub covers : (j : ℕ) (v : View I) (front k : ℕ) (b : Block) → get_elem? views j ≡ maybe.some v → IsFront v.seen front
+      → block_of state k ≡ Some b → front < b.first
   pub pens : (j : ℕ) (v : View I) (k : ℕ) → get_elem? views j ≡ maybe.some v → v.who ≡ Pen k → IsPenOf state v k
   -- a writer has one pen
   pub one_pen : (i j : ℕ) (u v : View I) (k : ℕ) → get_elem? views i ≡ maybe.some u → get_elem? views j ≡ maybe.some v → u.who ≡ Pen k → v.who ≡ Pen k → i ≡ j

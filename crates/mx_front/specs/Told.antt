@@ -81,10 +81,18 @@ drew st m found m' = (m' ≡ (drawing m.0 found st.first, m.1)) × (m.0.read ≤
 
 -- after a store
 abbrev pub storing : {I : Type 0} → View I → Stored I → Held I → View I
-storing v x b = record v { seen = v.all ++ x ∷ []; all = v.all ++ x ∷ []; own = v.own ++ x ∷ []; block = None; reserve = v.reserve - length x.items; spares = b.spare }
+storing v x b = record v {
+  seen = v.all ++ x ∷ [];
+  all = v.all ++ x ∷ [];
+  own = v.own ++ x ∷ [];
+  block = None;
+  reserve = v.reserve - length x.items;
+  spares = b.spare;
+}
 
 abbrev pub put : {I : Type 0} → At I → Sat I → ℕ → Sat I → Type 0
-put {I} st m found m' = (x : Stored I) (b : Held I) → m.1 ≡ (0, Some b) ∷ [] → m.0.who ≡ Pen x.writer → StandsFor (m.0.all ++ x ∷ []) b → m' ≡ (storing m.0 x b, m.1)
+put {I} st m found m' =
+    (x : Stored I) (b : Held I) → m.1 ≡ (0, Some b) ∷ [] → m.0.who ≡ Pen x.writer → StandsFor (m.0.all ++ x ∷ []) b → m' ≡ (storing m.0 x b, m.1)
 
 -- the room of a seat after its turn: that of its lane, if it is a pen
 abbrev pub reserve_in : Role → ℕ → List ℕ → ℕ

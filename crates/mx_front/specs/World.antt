@@ -22,7 +22,8 @@ use Rattle.mx_front.specs.Queue.{Line, IsHome, Waiting, Having}
 abbrev pub Slot : Type 0 → Type 0
 Slot I = Option (Held I)
 
--- the machine of positions and its pens: the seat of each pen, the seat that makes pens and how many it has made, the pens whose last draw ended at the stop or past it, and the room that is set apart for each pen
+-- the machine of positions and its pens: the seat of each pen, the seat that makes pens and how many it has made, the pens whose last
+-- draw ended at the stop or past it, and the room that is set apart for each pen
 pub record Core (I : Type 0) : Type 0 where
   pub state : State I
   pub pen_of : ℕ → ℕ
@@ -88,7 +89,8 @@ pub record Good {I : Type 0} (law : Law I) (key : Key) (w : World I) : Type 0 wh
   pub stocked : Stocked key.writers w.core.state.history w.core.room w.line.slot
 
 -- a seat has the turn, with the book: it knows the history and the room of each lane
-pub record InTurn {I : Type 0} (lanes : ℕ) (l : Line (Held I)) (h : List (Stored I)) (room : ℕ → ℕ) (j : ℕ) (all : List (Stored I)) (spares : List ℕ) (t : ℕ) : Type 0 where
+pub record InTurn {I : Type 0} (lanes : ℕ) (l : Line (Held I)) (h : List (Stored I)) (room : ℕ → ℕ) (j : ℕ) (all : List (Stored I))
+    (spares : List ℕ) (t : ℕ) : Type 0 where
   pub queue : Having l j t
   pub whole : all ≡ h
   pub rooms : (k : ℕ) → room k ≤ slice_index spares k
@@ -100,7 +102,8 @@ Queued lanes l h room j all spares (Waits t) = Waiting l j t
 Queued lanes l h room j all spares (Has t) = InTurn lanes l h room j all spares t
 
 -- a seat is the pen of a writer: it knows all stores of the writer, its block and its room, and has read the stop where the writer is past it
-pub record PenOf {I : Type 0} (key : Key) (w : Core I) (j : ℕ) (mine : List (Stored I)) (held : Option Block) (reserve read : ℕ) (fresh : Bool) (k : ℕ) : Type 0 where
+pub record PenOf {I : Type 0} (key : Key) (w : Core I) (j : ℕ) (mine : List (Stored I)) (held : Option Block) (reserve read : ℕ)
+    (fresh : Bool) (k : ℕ) : Type 0 where
   pub made : k < w.made
   pub seat : w.pen_of k ≡ j
   pub own_is : mine ≡ own w.state.history k
@@ -136,7 +139,22 @@ pub record Ruled {I : Type 0} (law : Law I) (key : Key) (s : table.State (Slot I
 
 -- a seat that knows a bound on the number of writers alone, and the first seat
 abbrev pub blank : {I : Type 0} → ℕ → Role → View I
-blank writers who = record { turn = Idle; who = who; block = None; reserve = 0; read = 0; fresh = false; looks = 0; writers = writers; of = record {}; seen = []; heard = []; own = []; all = []; spares = [] }
+blank writers who = record {
+  turn = Idle;
+  who = who;
+  block = None;
+  reserve = 0;
+  read = 0;
+  fresh = false;
+  looks = 0;
+  writers = writers;
+  of = record {};
+  seen = [];
+  heard = [];
+  own = [];
+  all = [];
+  spares = [];
+}
 
 abbrev pub opening_view : {I : Type 0} → Key → View I
 opening_view key = blank key.writers (Maker 0)

@@ -16,10 +16,11 @@ use std::alloc::Global;
 use std::sync::Wait;
 
 impl<I: Placed + Copied> Stream<I> {
-    /// The items up to the front, of the stores at this moment. All that the pass had seen is a beginning of these
-    /// stores; the pass has then seen just these, and its number of looks rises by one, also where the answer is
-    /// `Memory`. They have at least as many items as each value of `next` that the pass has kept, less 4,096. Waits
-    /// for its turn at the stream. `Memory` where the allocator refuses the list, or what an item's copy needs.
+    /// The items up to the front of some stores, which all that the pass had seen begins, and which have at least as
+    /// many items as each value of `next` that the pass has kept, less 4,096: so far is it told which moment they are of.
+    /// The pass has then seen just these, all by writers below the number that it knows, and its number of looks rises
+    /// by one, also where the answer is `Memory`. Waits for its turn at the stream. `Memory` where the allocator refuses
+    /// the list, or what an item's copy needs.
     pub fn look<R: Wait>(
         &self,
         rt: &R,
@@ -39,8 +40,8 @@ impl<I: Placed + Copied> Stream<I> {
 }
 
 impl<I: Placed + Drop> Stream<I> {
-    /// A look that answers no items: the pass has then seen the stores at this moment, and its number of looks rises by
-    /// one. Waits for its turn at the stream, and takes no memory.
+    /// A look that answers no items: the pass has then seen more stores, as after `look`, and its number of looks rises
+    /// by one. Waits for its turn at the stream, and takes no memory.
     pub fn glance<R: Wait>(&self, rt: &R, pass: &mut Pass<I>)
         requires stream { place_of_pass pass.old ≡ place_of self.now }
         ensures stream { place_of_pass pass.new ≡ place_of_pass pass.old }

@@ -12,7 +12,8 @@ OneHistory I = (h k : List (Stored I)) (b : Held I) → StandsFor h b → Stands
 
 -- a book with one store more stands for the history with that store at its end
 abbrev pub OneStoreMore : Type 0 → Type 0
-OneStoreMore I = (h : List (Stored I)) (x : Stored I) (old new : Held I) → StandsFor h old → new.history ≡ old.history ++ x ∷ [] → IsFront new.history new.front → StandsFor (h ++ x ∷ []) new
+OneStoreMore I = (h : List (Stored I)) (x : Stored I) (old new : Held I) → StandsFor h old
+    → new.history ≡ old.history ++ x ∷ [] → IsFront new.history new.front → StandsFor (h ++ x ∷ []) new
 
 -- a book whose stores and front are as before stands for the same history
 abbrev pub StandsStill : Type 0 → Type 0

@@ -136,9 +136,10 @@ impl<I: Drop> Book<I> {
 }
 
 impl<I: Copied> Book<I> {
-    /// The items at the positions from 1 to `front`, which is at most the book's front, as copies: a later store
-    /// doesn't change them. The book stands for the same history afterwards. `Memory` where the allocator refuses the
-    /// list, or what an item's copy needs.
+    /// The items at the positions from 1 to `front`, which is at most the book's front: a later store doesn't change
+    /// them. Each item is copied once in the book's life, and all parts share the copy; beyond that it costs a count for
+    /// each full segment of 1,024 items, and one for each item after them. The book stands for the same history
+    /// afterwards. `Memory` where the allocator refuses the lists, or what an item's copy needs.
     pub fn up_to(&mut self, alloc: Global, front: u64) -> Result<Parts<I>, Memory>
         requires { front ≤ self.old.front }
         ensures found { IfOk result (λ parts. IsUpTo self.old.history front parts) }

@@ -1,7 +1,6 @@
 -- What is sent in each transaction once the last one is put among the others.
-use Rattle.std.proofs.Common.{◌≡◌, Option, Some, None, refl, sym, ap, ◌∙◌}
+use Rattle.std.proofs.Common.{◌≡◌, Some, None, sym, ap, ◌∙◌}
 use Rattle.std.specs.BTreeMap as tree
-use Rattle.mx_ids.specs.declared.event_id.EventId.{EventId}
 use Rattle.mx_room.specs.declared.txns.SentTxn.{SentTxn}
 use Rattle.mx_room.specs.declared.txns.TxnIndex.{TxnIndex}
 use Rattle.mx_room.specs.declared.txns.TxnKey.{TxnKey}

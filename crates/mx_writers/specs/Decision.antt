@@ -45,4 +45,5 @@ pub record CanBeStored {I : Type 0} (law : Law I) (place : Placing I) (k : ℕ) 
   pub lawful : (first : ℕ) → MayFollow mine first xs → law k mine first (placed_from place first first xs) ≡ true
 
 abbrev pub AreLawful : {I D E : Type 0} → Law I → Placing I → (ℕ → List (Stored I) → D → Decision I E) → Type 0
-AreLawful {I} {D} law place decides = (k : ℕ) (mine : List (Stored I)) (draft : D) (xs : List I) → IsLane law k mine → decides k mine draft ≡ Stores xs → CanBeStored law place k mine xs
+AreLawful {I} {D} law place decides =
+    (k : ℕ) (mine : List (Stored I)) (draft : D) (xs : List I) → IsLane law k mine → decides k mine draft ≡ Stores xs → CanBeStored law place k mine xs

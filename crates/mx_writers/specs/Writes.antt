@@ -38,8 +38,10 @@ WritesBy place (Decision.Refuses e) k stop mine (Err (Fault f m)) v = (f ≡ e) 
 WritesBy place d k stop mine (Err Memory) v = v.own ≡ mine
 WritesBy place d k stop mine answer v = ⊥
 
--- a write in the turn of the writer k, with what its pass has seen before and after: `mine` are the writer's stores when its turn began, and its pen knows v when the turn ends
-pub record WritesSeen {I D E : Type 0} (place : Placing I) (decides : ℕ → List (Stored I) → D → Decision I E) (k stop : ℕ) (draft : D) (answer : Result Written (Refused E)) (old new : View I) : Type 0 where
+-- a write in the turn of the writer k, with what its pass has seen before and after: `mine` are the writer's stores when its turn began,
+-- and `pen` is what its pen knows when the turn ends
+pub record WritesSeen {I D E : Type 0} (place : Placing I) (decides : ℕ → List (Stored I) → D → Decision I E) (k stop : ℕ) (draft : D)
+    (answer : Result Written (Refused E)) (old new : View I) : Type 0 where
   pub mine : List (Stored I)
   pub pen : View I
   pub wrote : WritesBy place (decides k mine draft) k stop mine answer pen

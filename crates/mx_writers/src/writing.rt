@@ -35,7 +35,8 @@ pub fn write_in<F: Folds, G: Gate, R: Wait>(
     requires watch { watch.old.told ≡ None }
     ensures stream { (place_of_pen shard.new.pen ≡ place_of_pen shard.old.pen) × (shard.new.writer ≡ shard.old.writer) }
     ensures seen { Begins (known shard.old.pen).seen (known shard.new.pen).seen }
-    ensures wrote { WritesBy F.Item.placed (F.decides shard.old.writer (known shard.old.pen).own draft) shard.old.writer (stop_of stream.now) (known shard.old.pen).own result (known shard.new.pen) }
+    ensures wrote { WritesBy F.Item.placed (F.decides shard.old.writer (known shard.old.pen).own draft) shard.old.writer
+        (stop_of stream.now) (known shard.old.pen).own result (known shard.new.pen) }
     ensures told { (watch.new.gate ≡ watch.old.gate) × (watch.new.told ≡ told_by shard.old.writer result) }
 {
     let lane = shard.lane;
@@ -68,7 +69,8 @@ fn store_block<F: Folds, G: Gate, R: Wait>(
     requires lawful { CanBeStored F.Item.lawful F.Item.placed shard.old.writer (known shard.old.pen).own prepared.now.items }
     ensures stream { (place_of_pen shard.new.pen ≡ place_of_pen shard.old.pen) × (shard.new.writer ≡ shard.old.writer) }
     ensures seen { Begins (known shard.old.pen).seen (known shard.new.pen).seen }
-    ensures wrote { WritesBy F.Item.placed (Stores prepared.now.items) shard.old.writer (stop_of stream.now) (known shard.old.pen).own result (known shard.new.pen) }
+    ensures wrote { WritesBy F.Item.placed (Stores prepared.now.items) shard.old.writer
+        (stop_of stream.now) (known shard.old.pen).own result (known shard.new.pen) }
     ensures told { (watch.new.gate ≡ watch.old.gate) × (watch.new.told ≡ told_by shard.old.writer result) }
 {
     let lane = shard.lane;
@@ -104,7 +106,8 @@ pub(crate) fn write_noted<F: Folds, G: Gate, R: Wait>(
 ) -> Result<Written, Refused<F::Fault>>
     requires watch { watch.old.told ≡ None }
     requires stream { (place_of_pen shard.old.pen ≡ place_of stream.now) × (place_of_pass pass.old ≡ place_of stream.now) }
-    ensures stream { (place_of_pen shard.new.pen ≡ place_of_pen shard.old.pen) × (shard.new.writer ≡ shard.old.writer) × (place_of_pass pass.new ≡ place_of_pass pass.old) }
+    ensures stream { (place_of_pen shard.new.pen ≡ place_of_pen shard.old.pen) × (shard.new.writer ≡ shard.old.writer)
+        × (place_of_pass pass.new ≡ place_of_pass pass.old) }
     ensures wrote { WritesSeen F.Item.placed F.decides shard.old.writer (stop_of stream.now) draft result (reads pass.old) (reads pass.new) }
     ensures told { (watch.new.gate ≡ watch.old.gate) × (watch.new.told ≡ told_by shard.old.writer result) }
 {

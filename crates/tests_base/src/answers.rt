@@ -1,7 +1,7 @@
 //! The bytes of answers, and the names and values of queries.
 use crate::make::{json, text};
-use mx_http::{Answer, Body, query, write_answer};
-use mx_ids::Text;
+use mx_http::{Answer, Body, parameter, path, path_parts, query, write_answer};
+use mx_ids::{Seq, Text};
 use mx_outside::MemSink;
 use std::alloc::{AllocError, Global};
 use std::process::Abort;
@@ -148,4 +148,48 @@ fn a_query_is_decoded_in_order(rt: HostRuntime) {
     );
     assert_eq!(rt; found.as_str(), "since=s1_0\na b={é\nx=\ny=\u{fffd}\nx=?\n");
     assert!(rt; pairs(&rt, rt.alloc(), "/sync").as_str().is_empty());
+}
+
+/// The value of a parameter of a target.
+fn value(rt: &impl Abort, alloc: Global, target: &str, name: &str) -> Text {
+    let pairs = query(alloc, &text(rt, alloc, target)).expect(rt, "memory");
+    match parameter(pairs.as_slice(), name) {
+        Some(value) => text(rt, alloc, value.as_str()),
+        None => text(rt, alloc, "none"),
+    }
+}
+
+#[test]
+fn the_first_parameter_of_a_name_counts(rt: HostRuntime) {
+    let alloc = rt.alloc();
+    let target = "/sync?timeout=0&since=a&since=b";
+    assert_eq!(rt; value(&rt, alloc, target, "since").as_str(), "a");
+    assert_eq!(rt; value(&rt, alloc, target, "sinc").as_str(), "none");
+    assert_eq!(rt; path(&text(&rt, alloc, target)), "/sync");
+}
+
+/// The two parts of a path once they are decoded, with a line between them; empty where one isn't UTF-8.
+fn decoded(rt: &impl Abort, alloc: Global, first: &str, second: &str) -> Text {
+    let mut parts = Seq::new(alloc);
+    parts.push(text(rt, alloc, first)).expect(rt, "memory");
+    parts.push(text(rt, alloc, second)).expect(rt, "memory");
+    let mut out = Text::new(alloc);
+    if let Some(parts) = path_parts(alloc, &parts).expect(rt, "memory") {
+        for part in parts.as_slice() {
+            out.push_str(part.as_str()).expect(rt, "memory");
+            out.push_str("|").expect(rt, "memory");
+        }
+    }
+    out
+}
+
+#[test]
+fn parts_of_a_path_are_decoded(rt: HostRuntime) {
+    let alloc = rt.alloc();
+    assert_eq!(rt;
+        decoded(&rt, alloc, "%21a%3Ab", "x+y%2").as_str(),
+        "!a:b|x+y%2|"
+    );
+    assert_eq!(rt; decoded(&rt, alloc, "%c3%a9", "").as_str(), "é||");
+    assert_eq!(rt; decoded(&rt, alloc, "a", "%ff").as_str(), "");
 }

@@ -7,6 +7,8 @@ mod answers;
 #[cfg(test)]
 mod book_of_lanes;
 #[cfg(test)]
+mod clocks;
+#[cfg(test)]
 mod ids_and_tokens;
 #[cfg(test)]
 mod json_values;

@@ -2,7 +2,7 @@
 ghost use Rattle.std.specs.Prelude.{◌<◌};
 
 use crate::make::{json, list};
-use mx_http::{Call, HttpFault, Reader, reader};
+use mx_http::{Call, HttpFault, Reader, access_token, query, reader};
 use mx_outside::MemSource;
 use std::alloc::Global;
 use std::process::Abort;
@@ -216,4 +216,26 @@ fn some_requests_ask_to_close(rt: HostRuntime) {
     assert!(rt; closes(&rt, alloc, close));
     let closed = b"GET / HTTP/1.1\r\nConnection: keep-alive, closed\r\n\r\n";
     assert!(rt; !closes(&rt, alloc, closed));
+}
+
+/// Asserts the access token of the first request, from its field or its query.
+fn expect_access(rt: &impl Abort, alloc: Global, bytes: &[u8], wanted: &str) {
+    let asked = first(rt, alloc, bytes).expect(rt, "no fault");
+    let call = asked.expect(rt, "a request");
+    let pairs = query(alloc, &call.target).expect(rt, "memory");
+    let found = match access_token(&call, pairs.as_slice()) {
+        Some(token) => token.as_str(),
+        None => "none",
+    };
+    assert_eq!(rt; found, wanted);
+}
+
+#[test]
+fn a_token_may_stand_in_the_query(rt: HostRuntime) {
+    let alloc = rt.alloc();
+    let query = b"GET /sync?access_token=tok_q HTTP/1.1\r\n\r\n";
+    expect_access(&rt, alloc, query, "tok_q");
+    let both = b"GET /sync?access_token=tok_q HTTP/1.1\r\nAuthorization: Bearer tok_a1\r\n\r\n";
+    expect_access(&rt, alloc, both, "tok_a1");
+    expect_access(&rt, alloc, b"GET /sync HTTP/1.1\r\n\r\n", "none");
 }

@@ -4,7 +4,7 @@ ghost use Rattle.mx_create.specs.Admitted.{IsBlock};
 
 use crate::make::{json, repeated, text, user};
 use mx_core::Prepared;
-use mx_create::{CreateFault, admit_block, block, is_create_body};
+use mx_create::{BodyField, CreateFault, admit_block, block, is_create_body, wrong_field};
 use mx_event::{Draft, Event};
 use mx_ids::{Memory, RoomId, Seq, Text, Users};
 use mx_room::{RoomBook, book};
@@ -253,6 +253,21 @@ fn the_form_of_a_body(rt: HostRuntime) {
         false,
     );
     has_form(&rt, alloc, r#"{"invite":["@bob:x",null]}"#, false);
+}
+
+/// Asserts which part of a value doesn't have the form of a body.
+fn has_wrong(rt: &impl Abort, alloc: Global, body: &str, expected: Option<BodyField>) {
+    assert_eq!(rt; wrong_field(&json(rt, alloc, body)), expected);
+}
+
+#[test]
+fn the_first_wrong_part_of_a_body_is_told(rt: HostRuntime) {
+    let alloc = rt.alloc();
+    has_wrong(&rt, alloc, "[]", Some(BodyField::Body));
+    let both = r#"{"initial_state":[{}],"invite":"@bob:x"}"#;
+    has_wrong(&rt, alloc, both, Some(BodyField::InitialState));
+    has_wrong(&rt, alloc, r#"{"invite":[1]}"#, Some(BodyField::Invite));
+    has_wrong(&rt, alloc, "{}", None);
 }
 
 /// What becomes of a room that is asked for with a body, of a writer that has none yet.

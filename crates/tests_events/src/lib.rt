@@ -1,5 +1,5 @@
 //! Tests of the crates of events and rooms, through their public items: events, the rules by which they are allowed, a
-//! writer's rooms, their creation, and account data.
+//! writer's rooms, their creation, account data and receipts.
 #![tactic(auto)]
 
 #[cfg(test)]
@@ -10,6 +10,8 @@ mod creation;
 mod events;
 #[cfg(test)]
 mod make;
+#[cfg(test)]
+mod receipts;
 #[cfg(test)]
 mod rooms;
 #[cfg(test)]

@@ -13,9 +13,10 @@ overflow_add-reach-in-stores-2 g c =
 
 pub stores-preserved : goal.stores-preserved
 stores-preserved g c = (
-    subst (λ n. IsReach (by_index c.args.history.now c.args.order.now) (c.stores.reach.passed + 1) (c.stores.reach.front + n) 0) (sym c.len.ensures)
-    (reach_more _ _ _ _ c.stores.invariant.0 c.store_at-store.ensures c.if-store-reach.false),
-    omega (arith, c.stores.invariant.1))
+  subst (λ n. IsReach (by_index c.args.history.now c.args.order.now) (c.stores.reach.passed + 1) (c.stores.reach.front + n) 0) (sym c.len.ensures)
+      (reach_more _ _ _ _ c.stores.invariant.0 c.store_at-store.ensures c.if-store-reach.false),
+  omega (arith, c.stores.invariant.1),
+)
 
 pub returns-clause-reach : goal.returns-clause-reach
 returns-clause-reach g c = reach_end _ _ _ c.stores.invariant.0 (omega (arith, length-by_index c.args.history.now c.args.order.now c.requires.valid, c.stores-test.false))

@@ -1,4 +1,4 @@
-use Rattle.std.proofs.Common.{◌≡◌, [], ◌∷◌, ◌++◌, length, sym, ap, subst, ◌∙◌}
+use Rattle.std.proofs.Common.{◌≡◌, [], ◌∷◌, ◌++◌, sym, ap, subst, ◌∙◌}
 use Rattle.mx_auth.specs.Placing.{IsNumbered, SenderList, is_in}
 use Rattle.mx_auth.proofs.Numbering.{last_in, numbered_seen, one_numbered, unchanged_numbered}
 use Rattle.mx_auth.proofs.Sorted.{when_ok}

@@ -1,4 +1,4 @@
-use Rattle.std.proofs.Common.{ap, subst, ◌∙◌}
+use Rattle.std.proofs.Common.{ap, ◌∙◌}
 use Rattle.mx_auth.specs.Placing.{SenderList}
 use Rattle.mx_auth.proofs.Numbering.{named_seen}
 use Rattle.mx_auth.proofs.senders.Senders.number.Goals as goal

@@ -17,6 +17,6 @@ pub returns-clause-found : goal.returns-clause-found
 returns-clause-found g c =
     let low : c.args.front ≤ c.self.inside.reach.front = omega (arith, c.requires, ap (λ (b : Held g.row.I.Denot). b.front) c.self.view_is) in
     IfOk-weaker c.parts.result _ _ (λ p h.
-        subst (λ (b : Held g.row.I.Denot). IsUpTo b.history c.args.front p) c.self.view_is
-        (subst (IsUpTo c.self.inside.history.items c.args.front) (sym h)
-        (taken_at _ _ _ _ _ _ _ _ _ c.self.invariant.0 low c.as_slice.ensures.value c.as_slice-2.ensures.value (ap (take c.args.front) c.in_ok-shelve.ensures.ok) (c.len.ensures ∙ c.self.inside.history.ok.0)))) c.parts.ensures
+    subst (λ (b : Held g.row.I.Denot). IsUpTo b.history c.args.front p) c.self.view_is
+    (subst (IsUpTo c.self.inside.history.items c.args.front) (sym h)
+    (taken_at _ _ _ _ _ _ _ _ _ c.self.invariant.0 low c.as_slice.ensures.value c.as_slice-2.ensures.value (ap (take c.args.front) c.in_ok-shelve.ensures.ok) (c.len.ensures ∙ c.self.inside.history.ok.0)))) c.parts.ensures

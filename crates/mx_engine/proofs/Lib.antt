@@ -1,0 +1,4 @@
+pub mod Blocked
+pub mod Done
+pub mod Marked
+pub mod Users

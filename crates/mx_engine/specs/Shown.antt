@@ -1,0 +1,56 @@
+-- What a clause reads of an engine, of its passes and of what a writer is asked to store.
+use Rattle.std.specs.Prelude.{◌≡◌, ℕ, ◌<◌, Ok, Err, true}
+use Rattle.mx_create.specs.Bodies.{is_create_body}
+use Rattle.mx_front.specs.Shown.{place_of, place_of_pass, reads, seen_by, stop_of}
+use Rattle.mx_engine.specs.Answers.{Lists, Stops}
+use Rattle.mx_engine.specs.Asked.{Aimed, Site}
+use Rattle.mx_engine.specs.EventsDecided.{plan_of}
+use Rattle.mx_engine.specs.declared.aim.Aim.{Aim}
+use Rattle.mx_engine.specs.declared.aim.Aim.TheVariants as aim
+use Rattle.mx_engine.specs.declared.ask.Ask.{Ask}
+use Rattle.mx_engine.specs.declared.ask.Ask.TheVariants as ask
+use Rattle.mx_engine.specs.declared.held.Engine.{Engine}
+use Rattle.mx_engine.specs.declared.held.EnginePass.{EnginePass}
+
+-- what a pass has seen of each stream
+abbrev pub lists_of : EnginePass → Lists
+lists_of p = record { events = seen_by p.events; receipts = seen_by p.receipts; accounts = seen_by p.accounts }
+
+-- the numbers of looks at each stream have risen
+pub record HasLooked (old new : EnginePass) : Type 0 where
+  pub events : (reads old.events).looks < (reads new.events).looks
+  pub receipts : (reads old.receipts).looks < (reads new.receipts).looks
+  pub accounts : (reads old.accounts).looks < (reads new.accounts).looks
+
+-- each answer but that to `whoami` looks at each stream
+abbrev pub LooksFor : Ask → EnginePass → EnginePass → Type 0
+LooksFor ask.WhoAmI old new = Unit {0}
+LooksFor other old new = HasLooked old new
+
+-- the body of a room's creation has the form
+abbrev pub IsAsk : Ask → Type 0
+IsAsk (ask.CreateRoom body) = is_create_body body ≡ true
+IsAsk other = Unit {0}
+
+abbrev pub aimed_of : Aim → Aimed
+aimed_of (aim.Refused r) = Err r
+aimed_of (aim.Write k draft told) = Ok (record { writer = k; plan = plan_of draft; told = told })
+
+-- the writer that is asked is one of so many
+abbrev pub IsWithin : ℕ → Aim → Type 0
+IsWithin writers (aim.Refused r) = Unit {0}
+IsWithin writers (aim.Write k draft told) = k < writers
+
+module _ {G : Type 0} where
+  abbrev pub site_of : Engine G → Site
+  site_of e = record { users = e.users; writers = e.workers }
+
+  -- the pass is one of the engine's streams
+  pub record Ties (e : Engine G) (p : EnginePass) : Type 0 where
+    pub events : place_of_pass p.events ≡ place_of e.events.stream
+    pub receipts : place_of_pass p.receipts ≡ place_of e.receipts.stream
+    pub accounts : place_of_pass p.accounts ≡ place_of e.accounts.stream
+
+  -- of each stream no block is drawn once this many positions were
+  abbrev pub stops_of : Engine G → Stops
+  stops_of e = record { events = stop_of e.events.stream; receipts = stop_of e.receipts.stream; accounts = stop_of e.accounts.stream }

@@ -1,0 +1,37 @@
+//! The engine and its passes.
+
+ghost use Rattle.std.specs.Prelude.{◌≡◌, ◌≤◌};
+ghost use Rattle.mx_front.specs.Shown.{writers_of};
+
+use crate::accounts::Accounts;
+use crate::events::Rooms;
+use crate::receipts::Receipts;
+use mx_account::Entry;
+use mx_event::Event;
+use mx_front::Pass;
+use mx_ids::Users;
+use mx_receipt::Receipt;
+use mx_writers::{Gate, Writers};
+
+/// A homeserver: its users, and the streams of events, receipts and account data with their writers.
+#[derive(Drop)]
+pub struct Engine<G: Gate + Drop> {
+    pub(crate) users: Users,
+    pub(crate) workers: u8,
+    pub(crate) events: Writers<Rooms>,
+    pub(crate) receipts: Writers<Receipts>,
+    pub(crate) accounts: Writers<Accounts>,
+    pub(crate) gate: G,
+    ghost some_writers: { 1 ≤ workers },
+    ghost of_events: { writers_of events.stream ≡ workers },
+    ghost of_receipts: { writers_of receipts.stream ≡ workers },
+    ghost of_accounts: { writers_of accounts.stream ≡ workers },
+}
+
+/// A reader of the streams of an engine.
+#[derive(Drop)]
+pub struct EnginePass {
+    pub(crate) events: Pass<Event>,
+    pub(crate) receipts: Pass<Receipt>,
+    pub(crate) accounts: Pass<Entry>,
+}

@@ -1,0 +1,111 @@
+//! The start of an engine.
+
+ghost use Rattle.std.specs.Prelude.{◌≡◌, ◌≤◌, [], IfOk};
+ghost use Rattle.mx_writers.specs.Start.{AreFreshFolds};
+ghost use Rattle.mx_engine.specs.Answers.{nothing};
+ghost use Rattle.mx_engine.specs.Shown.{Ties, lists_of, site_of, stops_of};
+
+use crate::accounts::Accounts;
+use crate::events::Rooms;
+use crate::held::{Engine, EnginePass};
+use crate::receipts::Receipts;
+use crate::shelf::Shelf;
+use mx_front::stream;
+use mx_ids::{Memory, Seq, Users};
+use mx_room::book;
+use mx_writers::{Gate, writers};
+use std::alloc::Global;
+
+/// What an engine is made of.
+#[derive(Drop)]
+pub struct Setup {
+    pub users: Users,
+    /// The number of writers of each stream, 1 to 16.
+    pub workers: u8,
+    /// No block of a stream is drawn once this many positions were, at most 281,474,976,694,272.
+    pub stop: u64,
+}
+
+/// An engine without a store, and a pass of it that has seen nothing.
+pub fn engine<G: Gate + Drop>(
+    alloc: Global,
+    setup: Setup,
+    gate: G,
+) -> Result<(Engine<G>, EnginePass), Memory>
+    requires workers { (1 ≤ setup.workers) × (setup.workers ≤ 16) }
+    requires stop { setup.stop ≤ 281474976694272 }
+    ensures ties { IfOk result (λ r. Ties r.0 r.1) }
+    ensures site { IfOk result (λ r. site_of r.0 ≡ record { users = setup.users; writers = setup.workers }) }
+    ensures stops { IfOk result (λ r. stops_of r.0 ≡ record { events = setup.stop; receipts = setup.stop; accounts = setup.stop }) }
+    ensures nothing { IfOk result (λ r. lists_of r.1 ≡ nothing) }
+{
+    let Setup {
+        users,
+        workers,
+        stop,
+    } = setup;
+    let (events, event_pens, event_pass) = stream(alloc, workers, stop)?;
+    let events = writers(alloc, events, event_pens, all_rooms(alloc, workers)?)?;
+    let (receipts, receipt_pens, receipt_pass) = stream(alloc, workers, stop)?;
+    let receipts = writers(alloc, receipts, receipt_pens, all_receipts(alloc, workers)?)?;
+    let (accounts, account_pens, account_pass) = stream(alloc, workers, stop)?;
+    let accounts = writers(alloc, accounts, account_pens, all_accounts(alloc, workers)?)?;
+    Ok((
+        Engine {
+            users,
+            workers,
+            events,
+            receipts,
+            accounts,
+            gate,
+        },
+        EnginePass {
+            events: event_pass,
+            receipts: receipt_pass,
+            accounts: account_pass,
+        },
+    ))
+}
+
+fn all_rooms(alloc: Global, workers: u8) -> Result<Seq<Rooms>, Memory>
+    ensures { IfOk result (λ all. AreFreshFolds (λ r. r.book.writer) (λ r. r.book.stores) workers all) }
+{
+    let mut all = Seq::new(alloc);
+    'writers: for writer in 0..workers {
+        all.push(fresh_rooms(alloc, writer)?)?;
+    }
+    Ok(all)
+}
+
+fn all_receipts(alloc: Global, workers: u8) -> Result<Seq<Receipts>, Memory>
+    ensures { IfOk result (λ all. AreFreshFolds (λ r. r.shelf.writer) (λ r. r.shelf.stores.items) workers all) }
+{
+    let mut all = Seq::new(alloc);
+    'writers: for writer in 0..workers {
+        all.push(Receipts {
+            shelf: Shelf::new(alloc, writer),
+        })?;
+    }
+    Ok(all)
+}
+
+fn all_accounts(alloc: Global, workers: u8) -> Result<Seq<Accounts>, Memory>
+    ensures { IfOk result (λ all. AreFreshFolds (λ a. a.shelf.writer) (λ a. a.shelf.stores.items) workers all) }
+{
+    let mut all = Seq::new(alloc);
+    'writers: for writer in 0..workers {
+        all.push(Accounts {
+            shelf: Shelf::new(alloc, writer),
+        })?;
+    }
+    Ok(all)
+}
+
+/// The rooms of a writer, without a store. `Memory` is never answered.
+fn fresh_rooms(alloc: Global, writer: u8) -> Result<Rooms, Memory>
+    ensures { IfOk result (λ r. (r.book.writer ≡ writer) × (r.book.stores ≡ [])) }
+{
+    Ok(Rooms {
+        book: book(alloc, writer)?,
+    })
+}
