@@ -1,5 +1,5 @@
 -- A reply reads no more of contents than what is read of the room's events.
-use Rattle.std.proofs.Common.{◌≡◌, ℕ, ◌-◌, ◌≤◌, Bool, true, false, cond, not, ◌&&◌, ◌||◌, nat_lt, nat_le, List, [], ◌∷◌, ◌++◌, map, Option, Some, None, option_map, option_and_then, unwrap_or, refl, ap, ap₂, sym, ◌∙◌, append-nil, arith}
+use Rattle.std.proofs.Common.{◌≡◌, ℕ, ◌-◌, ◌≤◌, Bool, true, false, cond, not, ◌&&◌, ◌||◌, nat_lt, nat_le, List, [], ◌∷◌, Option, Some, None, option_map, option_and_then, unwrap_or, refl, ap, ap₂, sym, ◌∙◌, append-nil, arith}
 use Rattle.std.specs.List.{list_any, AllByRecursion}
 use Rattle.std.specs.Option.{option_or}
 use Rattle.mx_window.specs.Windows.{between}
@@ -13,12 +13,12 @@ use Rattle.mx_folding.specs.Parts.{Part, state_part, part_of, has_some, is_sende
 use Rattle.mx_folding.specs.Redactions.{is_some_of, shown}
 use Rattle.mx_folding.specs.Rooms.{Room, key_is}
 use Rattle.mx_folding.specs.Sections.{window, section, cut}
-use Rattle.mx_folding.specs.Stories.{position, Rest, Story, own_at, joined_in, Told, Nothing, Anew, More, Invited, Left, Sync, told_by, told_of, told, IsNext}
+use Rattle.mx_folding.specs.Stories.{position, Rest, Story, own_at, Nothing, Anew, More, Sync, told_by, told_of, told, IsNext}
 use Rattle.mx_folding.specs.Visible.{Membership, Join, Invite, Leave, Ban, SharedSince, Viewer, is_join, is_allowed, is_visible, stayed_joined}
 use Rattle.mx_folding.proofs.Longer.{same_part}
 use Rattle.mx_view.specs.Readings.{Contents, is_own, is_setting, viewer_by}
 use Rattle.mx_view.specs.Reads.{ReadAlike, SameRead}
-use Rattle.mx_view.specs.Rooms.{Key, Sieve, room_by, story_by}
+use Rattle.mx_view.specs.Rooms.{Key, Sieve, story_by}
 use Rattle.mx_view.specs.Tokens.{tokens}
 use Rattle.mx_view.proofs.Orders.{are_tokens}
 
