@@ -1,5 +1,5 @@
 -- The laws of reached states, and of their fronts.
-use Rattle.std.proofs.Common.{◌≡◌, ◌≢◌, ℕ, ◌+◌, ◌-◌, ◌<◌, ◌≤◌, ◌⊎◌, zero, suc, true, false, List, [], ◌∷◌, ◌++◌, Option, Some, None, length, get_or, min, refl, sym, ap, ◌∙◌, subst, inl, inr, arith}
+use Rattle.std.proofs.Common.{◌≡◌, ℕ, ◌+◌, ◌-◌, ◌<◌, ◌≤◌, ◌⊎◌, zero, suc, true, false, List, [], ◌∷◌, ◌++◌, Option, Some, None, length, get_or, min, refl, sym, ap, ◌∙◌, subst, inl, inr, arith}
 use Rattle.std.proofs.lemmas.Bool.{cases_lt, false≢true, false_from_ne_true}
 use Rattle.std.proofs.lemmas.Option.{same_Some}
 use Rattle.mx_core.specs.declared.machine.Block.{Block}
@@ -64,10 +64,6 @@ stored_apart s reached = (is_sound s reached).apart
 -- a held block has positions, and they are among those drawn
 pub held_in : {I : Type 0} (s : State I) → IsReached s → (k : ℕ) (b : Block) → block_of s k ≡ Some b → (0 < b.first) × (0 < b.count) × (b.first + b.count ≤ s.next + 1)
 held_in s reached = (is_sound s reached).held
-
--- the blocks of two writers have no position in common
-pub held_apart : {I : Type 0} (s : State I) → IsReached s → (j k : ℕ) (a b : Block) → j ≢ k → block_of s j ≡ Some a → block_of s k ≡ Some b → (a.first + a.count ≤ b.first) ⊎ (b.first + b.count ≤ a.first)
-held_apart s reached = (is_sound s reached).distinct
 
 -- each position that was drawn is stored or held
 pub reached_counts : {I : Type 0} (s : State I) → IsReached s → stored_count s.history + held_count s.held ≡ s.next

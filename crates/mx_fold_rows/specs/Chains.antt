@@ -5,7 +5,6 @@ use Rattle.mx_event.specs.declared.event.Event.{Event}
 use Rattle.mx_folding.specs.Clients.{Entry, Held, Open, ClientRoom}
 use Rattle.mx_folding.specs.Chains.{Client, new_client, Turn, Synced, Paged, Opening, after_turns}
 use Rattle.mx_folding.specs.Parts.{gap_at}
-use Rattle.mx_folding.specs.Stories.{Story}
 use Rattle.mx_view.specs.Rooms.{Key, story_by}
 use Rattle.mx_view.specs.Tokens.{tokens}
 use Rattle.mx_fold_rows.specs.Events.{alice, bob, joined_room, joins, message, long_room, left_room}

@@ -21,8 +21,15 @@ with_text key text = json.Object (record { key = key; value = json.Text text } �
 -- an event whose content has one text, which its transaction repeats
 abbrev pub event_at : ℕ → List ℕ → Option (List ℕ) → List ℕ → List ℕ → List ℕ → Event
 event_at p kind state_key sender key text = record {
-  id = record { at = p }; room = record { writer = 0; at = 1 }; kind = kind; state_key = state_key; sender = sender;
-  content = with_text key text; ts = 1001; txn = Some (record { device = 0; id = text; path = [] }); has_url = false;
+  id = record { at = p };
+  room = record { writer = 0; at = 1 };
+  kind = kind;
+  state_key = state_key;
+  sender = sender;
+  content = with_text key text;
+  ts = 1001;
+  txn = Some (record { device = 0; id = text; path = [] });
+  has_url = false;
 }
 
 abbrev pub state_event : ℕ → List ℕ → List ℕ → Event

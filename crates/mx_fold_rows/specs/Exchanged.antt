@@ -22,7 +22,10 @@ server = record {
   name = codes "example.org";
   user_of = λ device. cond (nat_eq device 0) alice bob;
   defaults = λ user. [];
-  view = λ user f room lists. 0; delta = λ user f room old new. 0; differs = λ user f room old new. false; changed = λ v d. v;
+  view = λ user f room lists. 0;
+  delta = λ user f room old new. 0;
+  differs = λ user f room old new. false;
+  changed = λ v d. v;
   heroes = λ user f room since lists. [];
 }
 
@@ -32,8 +35,16 @@ all_events = record { kinds = record { types = None; not_types = [] }; senders =
 -- a filter that passes everything, and one that has lazy members beside
 abbrev pub all : Selection
 all = record {
-  rooms = None; not_rooms = []; include_leave = false; state = all_events; timeline = all_events;
-  ephemeral = all_events.kinds; room_account = all_events.kinds; account = all_events.kinds; lazy = false; redundant = false;
+  rooms = None;
+  not_rooms = [];
+  include_leave = false;
+  state = all_events;
+  timeline = all_events;
+  ephemeral = all_events.kinds;
+  room_account = all_events.kinds;
+  account = all_events.kinds;
+  lazy = false;
+  redundant = false;
 }
 
 abbrev pub other : Selection

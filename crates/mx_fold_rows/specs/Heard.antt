@@ -1,9 +1,9 @@
 -- What a reply and a page say of a room, by the positions of events.
-use Rattle.std.specs.Prelude.{ℕ, Bool, true, false, List, map, Option, Some, None}
+use Rattle.std.specs.Prelude.{ℕ, Bool, true, false, List, map, Option}
 use Rattle.mx_ids.specs.declared.sync_token.SyncToken.{SyncToken}
 use Rattle.mx_event.specs.Shown.{position_of}
 use Rattle.mx_event.specs.declared.event.Event.{Event}
-use Rattle.mx_folding.specs.Parts.{Part, Page, page_of, gap_at}
+use Rattle.mx_folding.specs.Parts.{Page, page_of, gap_at}
 use Rattle.mx_folding.specs.Stories.{Rest, Sync, Told, Nothing, Anew, More, Invited, Left, told}
 use Rattle.mx_view.specs.Rooms.{Key, Sieve, room_by, story_by}
 use Rattle.mx_view.specs.Tokens.{tokens}

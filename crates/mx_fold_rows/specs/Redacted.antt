@@ -1,12 +1,12 @@
 -- Redactions, in replies and in what a client of one room holds.
-use Rattle.std.specs.Prelude.{◌≡◌, ℕ, true, false, List, [], ◌∷◌, ◌++◌, Option, Some, None, option_and_then}
+use Rattle.std.specs.Prelude.{◌≡◌, ℕ, true, false, List, [], ◌∷◌, ◌++◌, Option, Some, None}
 use Rattle.mx_ids.specs.declared.sync_token.SyncToken.{SyncToken}
 use Rattle.mx_event.specs.Kinds.{member_type}
 use Rattle.mx_event.specs.Redaction.{redacted}
 use Rattle.mx_event.specs.declared.event.Event.{Event}
 use Rattle.mx_folding.specs.Clients.{ClientRoom, held}
 use Rattle.mx_folding.specs.Stories.{Told, Nothing, Anew, More, Invited, Left, Story}
-use Rattle.mx_folding.specs.Chains.{Client, new_client, Turn, Synced, after_turns}
+use Rattle.mx_folding.specs.Chains.{new_client, Turn, Synced, after_turns}
 use Rattle.mx_view.specs.Rooms.{Key, story_by}
 use Rattle.mx_view.specs.Tokens.{tokens}
 use Rattle.mx_fold_rows.specs.Events.{alice, bob, joined_room, joins, joins_named, leaves, message, renamed_room, redacted_room}

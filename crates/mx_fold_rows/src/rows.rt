@@ -1,6 +1,6 @@
 //! The rows: each is a law over literal events.
 
-ghost use Rattle.mx_fold_rows.specs.Said.{SaysMembership, SaysSetting, SaysNames};
+ghost use Rattle.mx_fold_rows.specs.Said.{RoomsSay, SaysMembership, SaysNames, SaysSetting};
 ghost use Rattle.mx_fold_rows.specs.Exchanged.{FirstIsTold, NextIsTold, Begins, TakesPage, PassesPages, PassesReplies, GoesOnFrom, BeginsAnew, HasNotBegun};
 ghost use Rattle.mx_fold_rows.specs.Limits.{LastTen, RestOnePage, RestJustFits, PageOfThree, NoTimeline, LaterState, FullState, NothingNew, NeverThere};
 ghost use Rattle.mx_fold_rows.specs.Stays.{BreakAtHidden, PageOfStay, StateAfter, NoBreakAtDropped, HasLeft, CameBack, IsInvited, LeftAlready, InvitedAlready, LeaveIncluded, LeaveLeftOut, LeftSinceToken, LeftLimited, LeftBeforeToken, LeftSender, FirstBase, KeptBase};
@@ -15,6 +15,7 @@ pub fn contents_say()
     ensures says_membership { SaysMembership }
     ensures says_setting { SaysSetting }
     ensures says_names { SaysNames }
+    ensures rooms_say { RoomsSay }
 {}
 
 /// Limits, pages, and which state a reply has.

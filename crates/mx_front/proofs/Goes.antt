@@ -1,6 +1,5 @@
 -- Each step of one seat leads from a good world to a good one, and what the other seats know stays true.
-use Rattle.std.proofs.Common.{◌<◌, ◌≡◌, ◌≢◌, ℕ, suc, ◌+◌, ◌≤◌, ◌⊎◌, Bool, true, eqb, List, [], ◌∷◌, Some, None, length, get_or, set, append-nil, refl, sym, ap, ◌∙◌, subst, inl, inr, arith}
-use Rattle.std.proofs.lemmas.Bool.{cases_eq}
+use Rattle.std.proofs.Common.{◌<◌, ◌≡◌, ◌≢◌, ℕ, ◌+◌, ◌≤◌, Bool, true, eqb, List, [], ◌∷◌, Some, None, length, get_or, set, append-nil, refl, sym, ap, ◌∙◌, subst, inl, inr, arith}
 use mathlib.Core.Option as maybe
 use lib.Seq.{set-get_or}
 use prog.Atomic.{either}
@@ -26,7 +25,7 @@ use Rattle.mx_front.specs.Queue.{Line, IsHome, Waiting}
 use Rattle.mx_front.specs.World.{Slot, Core, World, words_of, Kept, Standing, Stocked, Good, InTurn, Queued, PenOf, Plays, Knowing, Knows}
 use Rattle.mx_front.specs.Told.{Sat, claimed, came, looking, looked, read_next, longer, learned}
 use Rattle.mx_front.proofs.Queues.{turn_cases, claimed_line, other_ticket, came_line, left_line}
-use Rattle.mx_front.proofs.Worlds.{change, change_here, change_else, passed_le, held_few, begins_longer, begins_one}
+use Rattle.mx_front.proofs.Worlds.{change, change_here, passed_le, held_few, begins_longer, begins_one}
 
 -- the room that is set apart after a turn
 abbrev pub room_after : Role → (ℕ → ℕ) → List ℕ → ℕ → ℕ

@@ -38,10 +38,14 @@ pub fn stream<I: Placed + Drop>(
         let pen = stream.make_pen(&mut maker, writer);
         pens.push(pen)?;
     }
-    Ok((stream, pens, Pass {
+    Ok((
+        stream,
+        pens,
+        Pass {
             seat: maker,
             stores: 0,
-        }))
+        },
+    ))
 }
 
 /// The stream, and the seat that makes its pens.

@@ -26,9 +26,12 @@ impl<I: Placed + Drop> Stream<I> {
         ensures entered { Entered seat.old.me.0 result.ticket seat.new.me }
     {
         let top = &self.table.shared;
-        let ticket =
-            claim::<plays::Claimed, Option<Book<I>>, View<I>, Key, Order, R>(rt, top, seat, TICKET);
-        come::<plays::Came, Option<Book<I>>, View<I>, Key, Order, R>(rt, top, seat, SERVING, ticket);
+        let ticket = claim::<plays::Claimed, Option<Book<I>>, View<I>, Key, Order, R>(
+            rt, top, seat, TICKET,
+        );
+        come::<plays::Came, Option<Book<I>>, View<I>, Key, Order, R>(
+            rt, top, seat, SERVING, ticket,
+        );
         Owed { ticket }
     }
 

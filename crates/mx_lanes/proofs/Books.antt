@@ -1,19 +1,17 @@
 -- What each call of a book needs of its fields, over plain values.
-use Rattle.std.proofs.Common.{◌≡◌, ℕ, ◌+◌, ◌-◌, ◌<◌, ◌≤◌, ◌^◌, ◌⊎◌, zero, suc, false, Some, Result, Ok, if◌then◌else◌, List, [], ◌∷◌, ◌++◌, length, get_or, set, take, drop, replicate, min, refl, sym, ap, ap₂, ◌∙◌, subst, inl, inr, arith}
+use Rattle.std.proofs.Common.{◌≡◌, ℕ, ◌+◌, ◌-◌, ◌<◌, ◌≤◌, ◌^◌, ◌⊎◌, zero, suc, false, Some, Result, Ok, if◌then◌else◌, List, [], ◌∷◌, ◌++◌, length, get_or, set, take, drop, replicate, refl, sym, ap, ap₂, ◌∙◌, subst, arith}
 use Rattle.std.specs.List.{AllByRecursion, slice_get}
 use Rattle.std.specs.Option.{is_some}
 use Rattle.std.specs.Result.{is_ok}
-use Rattle.std.proofs.lemmas.Bool.{cases_eq}
-use Rattle.std.proofs.lemmas.List.{append-nil, append_assoc, take_more, drop_all, length-set, length-take, get_or-set_same, get_or-set_other}
+use Rattle.std.proofs.lemmas.List.{append-nil, append_assoc, take_more, drop_all, length-take}
 use Rattle.mx_core.specs.declared.history.Stored.{Stored}
 use Rattle.mx_core.specs.Front.{IsFront}
 use Rattle.mx_core.specs.History.{item_at, is_stored, items_of}
 use Rattle.mx_lanes.specs.Book.{IsBook, IsShelved}
-use Rattle.mx_lanes.specs.Held.{Held, Keeps, OthersKeep, spare_of}
 use Rattle.mx_lanes.specs.Order.{by_index, IsReach}
 use Rattle.mx_lanes.specs.Parts.{IsUpTo, part_at}
 use Rattle.mx_lanes.specs.Room.{total, HasRoom}
-use Rattle.mx_lanes.proofs.Orders.{IsPlace, insert_named, valid_more, reach_placed, same_items, reach_front, reach_items, reach_length, slice_get-take, take_found, take_fill, length-by_index}
+use Rattle.mx_lanes.proofs.Orders.{IsPlace, insert_named, valid_more, reach_placed, same_items, reach_front, reach_items, reach_length, slice_get-take, take_found, length-by_index}
 
 -- the room of all lanes
 total-set : (xs : List ℕ) (k v : ℕ) → k < length xs → total (set xs k v) + get_or xs k 0 ≡ total xs + v
@@ -49,25 +47,6 @@ room_stored spare k v count used capacity grown larger lt is pos r more wide = r
 pub has_room : (spare : List ℕ) (k count used capacity : ℕ) → count ≤ get_or spare k 0 → 0 < count → HasRoom spare used capacity → used < capacity
 has_room spare k count used capacity le pos r = omega (arith, total_has spare k, r.fits)
 
--- a change of one lane's spare
-module _ {I : Type 0} (old : Held I) (k v : ℕ) where
-  pub others_kept : OthersKeep k old (record old { spare = set old.spare k v })
-  others_kept = record { lanes = length-set old.spare k v; others = λ other ne. get_or-set_other old.spare k other v 0 ne }
-
-  pub spare_kept : k < length old.spare → spare_of old k ≤ v → Keeps old (record old { spare = set old.spare k v })
-  spare_kept lt le = record {
-    history = refl;
-    front = refl;
-    lanes = length-set old.spare k v;
-    spare = λ lane. elim (cases_eq lane k) [
-      | inl same ↦
-          let is : get_or (set old.spare k v) lane 0 ≡ v = ap (λ i. get_or (set old.spare k v) i 0) same ∙ get_or-set_same old.spare k v 0 lt in
-          let was : get_or old.spare lane 0 ≡ get_or old.spare k 0 = ap (λ i. get_or old.spare i 0) same in
-          omega arith
-      | inr other ↦ let is : get_or (set old.spare k v) lane 0 ≡ get_or old.spare lane 0 = get_or-set_other old.spare k lane v 0 other in omega arith
-    ];
-  }
-
 -- the fields of a book
 pub book_new : {I : Type 0} (h : List (Stored I)) (order : List ℕ) → h ≡ [] → order ≡ [] → IsBook h order 0 0
 book_new {I} h order none nothing =
@@ -79,9 +58,6 @@ book_front h order passed front b = reach_front h (by_index h order) passed fron
 
 pub book_within : {I : Type 0} (h : List (Stored I)) (order : List ℕ) (passed front : ℕ) → IsBook h order passed front → passed ≤ length order
 book_within h order passed front b = omega (arith, b.reach.within, length-by_index h order b.valid)
-
-pub book_below : {I : Type 0} (h : List (Stored I)) (order : List ℕ) (passed front : ℕ) → IsBook h order passed front → front < 2 ^ 48
-book_below h order passed front b = b.reach.below
 
 -- one store more: before the front moves, and after it
 module _ {I : Type 0} (h : List (Stored I)) (order : List ℕ) (passed front place : ℕ) (x : Stored I) (b : IsBook h order passed front) (is : IsPlace (by_index h order) passed place x.first) where

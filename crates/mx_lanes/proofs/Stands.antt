@@ -1,11 +1,9 @@
 -- What a book stands for.
-use Rattle.std.proofs.Common.{◌≡◌, ℕ, ◌+◌, ◌<◌, ◌≤◌, ◌⊎◌, false, List, [], ◌∷◌, ◌++◌, length, refl, sym, ap, ◌∙◌, subst, inl, inr, arith}
-use Rattle.std.proofs.lemmas.Bool.{cases_lt, false≢true, false_from_ne_true}
+use Rattle.std.proofs.Common.{◌≡◌, ℕ, List, [], ◌∷◌, ◌++◌, length, refl, sym, ap, ◌∙◌, subst, inl, inr, arith}
+use Rattle.std.proofs.lemmas.Bool.{cases_lt, false≢true}
 use Rattle.std.proofs.lemmas.List.{same_from_push}
 use Rattle.mx_core.specs.declared.history.Stored.{Stored}
 use Rattle.mx_core.specs.Front.{IsFront}
-use Rattle.mx_core.specs.History.{is_stored}
-use Rattle.mx_core.proofs.Histories.{stored_cases}
 use Rattle.mx_lanes.specs.Held.{Held, empty, StandsFor}
 use Rattle.mx_lanes.specs.Laws.{OneHistory, OneStoreMore, StandsStill}
 
@@ -35,10 +33,3 @@ stands_still h old new a k = record {
   stores = ap length (k.history ∙ a.history);
   front = subst (IsFront h) (sym k.front) a.front;
 }
-
--- a position apart from a store is stored after it only if it was before
-pub apart_next : {I : Type 0} (h longer : List (Stored I)) (x : Stored I) (p : ℕ) → longer ≡ h ++ x ∷ [] → is_stored h p ≡ false → (p < x.first) ⊎ (x.first + length x.items ≤ p) → is_stored longer p ≡ false
-apart_next h longer x p is free apart = ap (λ l. is_stored l p) is ∙ false_from_ne_true (is_stored (h ++ x ∷ []) p) (λ e. elim (stored_cases h x p e) [
-  | inl before ↦ false≢true (sym free ∙ before)
-  | inr range ↦ elim apart [ inl under ↦ omega (arith, range.0) | inr over ↦ omega (arith, range.1) ]
-])

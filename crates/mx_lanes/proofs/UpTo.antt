@@ -1,5 +1,5 @@
 -- The items up to the front are those that a history covers.
-use Rattle.std.proofs.Common.{◌≡◌, ℕ, suc, ◌+◌, ◌<◌, length, ap, ◌∙◌, arith}
+use Rattle.std.proofs.Common.{◌≡◌, ℕ, suc, ◌+◌, ap, ◌∙◌, arith}
 use Rattle.mx_core.specs.History.{item_at}
 use Rattle.mx_core.proofs.Covering.{same_covered}
 use Rattle.mx_lanes.specs.Laws.{UpToFront}

@@ -1,5 +1,5 @@
 -- Segments of a list, each of 1,024 items.
-use Rattle.std.specs.Prelude.{ℕ, Bool, true, ◌&&◌, ◌++◌, List, [], ◌∷◌, length, nat_eq}
+use Rattle.std.specs.Prelude.{Bool, true, ◌&&◌, ◌++◌, List, [], ◌∷◌, length, nat_eq}
 
 abbrev pub joined : {I : Type 0} → List (List I) → List I
 joined [] = []

@@ -18,4 +18,3 @@ pub use laws::{
 };
 pub use parts::Parts;
 pub use shared::Shared;
-pub use shelf::Shelf;

@@ -4,3 +4,4 @@ pub mod Listed
 pub mod Stories
 pub mod Longer
 pub mod Pictured
+pub mod Alike

@@ -2,6 +2,7 @@
 
 ghost use Rattle.mx_view.specs.Later.{SamePaged, SameTold};
 ghost use Rattle.mx_view.specs.Pictures.{PicturesAre};
+ghost use Rattle.mx_view.specs.Reads.{SameRead};
 ghost use Rattle.mx_view.specs.Valid.{ValidFolds, ValidIsStory};
 
 /// A valid list of a room's events is what the folding law is about.
@@ -27,4 +28,9 @@ pub fn same_paged()
 /// A picture by filters is the one of the folding law.
 pub fn pictures_are()
     ensures { PicturesAre }
+{}
+
+/// What a reply says of a room depends on contents by no more than what is read of the room's events.
+pub fn same_read<V, D>()
+    ensures { SameRead V D }
 {}

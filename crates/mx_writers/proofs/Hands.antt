@@ -16,9 +16,6 @@ pub claimed_from : {T : Type 0} (at : TableId) (k found t : ℕ) (m m' : Sat T) 
 claimed_from at k found t m m' e e' same = e' ∙ (λ i. (record (e i).0 { turn = Waits (same i); writer = k }, (e i).1))
 
 module _ {T : Type 0} (P : ℕ → TableId → T → Type 0) where
-  pub came_from : (found t : ℕ) (m was m' : Sat T) → m ≡ was → (m.0.turn ≡ Waits found → Came P m found m') → found ≡ t → was.0.turn ≡ Waits t → Came P was t m'
-  came_from found t m was m' e told same turn = (subst (λ (z : Sat T × ℕ). z.0.0.turn ≡ Waits z.1 → Came P z.0 z.1 m') (λ i. (e i, same i)) told) turn
-
   pub has_turn : (at : TableId) (k t : ℕ) (m m' : Sat T) → m ≡ (record (resting at) { turn = Waits t; writer = k }, []) → Came P m t m' → t + 1 < 2 ^ 64 → HasTurn P at k t m'
   has_turn at k t m m' e came below = let c = subst (λ z. Came P z t m') e came in record { shard = c.shard; is = c.is; fits = c.fits; below = below }
 

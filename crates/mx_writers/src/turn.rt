@@ -49,10 +49,7 @@ impl<F: Folds> Writers<F> {
         let word = ticket_word(writer);
         let mut seat = self.new_seat();
         let ticket = claim::<plays::Claimed, Option<Shard<F>>, Ask, Stream<F::Item>, Guard<F>, R>(
-            rt,
-            top,
-            &mut seat,
-            word,
+            rt, top, &mut seat, word,
         );
         come::<plays::Came, Option<Shard<F>>, Ask, Stream<F::Item>, Guard<F>, R>(
             rt,

@@ -37,15 +37,7 @@ impl<F: Folds> Writers<F> {
         let (owed, mut seat) = self.begin(rt, shard);
         let mut taken = self.take_shard(&mut seat, shard, owed.ticket);
         let mut watch = Watch::new(gate);
-        let answer = write_noted(
-            rt,
-            alloc,
-            &self.stream,
-            &mut taken,
-            draft,
-            &mut watch,
-            pass,
-        );
+        let answer = write_noted(rt, alloc, &self.stream, &mut taken, draft, &mut watch, pass);
         self.leave(seat, shard, owed, taken);
         answer
     }

@@ -2,7 +2,7 @@
 #![tactic(auto)]
 
 #[cfg(test)]
-mod runs;
+mod shown;
 #[cfg(test)]
 mod streams;
 #[cfg(test)]

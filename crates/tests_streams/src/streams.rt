@@ -1,14 +1,18 @@
 //! A running stream: three writers with the stop 4, a stream that gets full, and two threads that write at once.
 
-ghost use Rattle.std.specs.Prelude.{◌≡◌, ◌≤◌, [], ◌∷◌, None, IfOk};
+ghost use Rattle.std.specs.Prelude.{◌≡◌, [], ◌∷◌, None, IfOk, length};
 ghost use Rattle.mx_front.specs.Shown.{place_of, writers_of, place_of_pen, place_of_pass, known};
 ghost use Rattle.mx_front.specs.Start.{IsNewPen, AreNewPens};
 ghost use Rattle.mx_front.specs.Told.{block_at};
 
-use crate::runs::ends_of_runs;
-use mx_front::{Drawn, Full, Pass, Pen, Stream, seats_see_one_history, stream};
+use crate::shown::{ends_of_runs, expect_items};
+use mx_front::{
+    Drawn, Full, Pass, Pen, Stream, seats_see_one_history, steps_keep_history, stream,
+    streams_cross_threads,
+};
 use mx_ids::{Memory, Seq};
-use mx_writers::Number;
+use mx_lanes::Parts;
+use mx_writers::{Number, Numbers, writers_cross_threads};
 use std::alloc::Global;
 use std::process::Abort;
 use std::sync::Wait;
@@ -77,29 +81,6 @@ fn first_pen(stream: &Stream<Number>, pens: Seq<Pen<Number>>) -> Pen<Number>
     ensures { IsNewPen (place_of stream.now) (writers_of stream.now) 0 result }
 {
     three(stream, pens).0
-}
-
-/// A look of a pass sees so many stores, and up to the front just these numbers.
-fn expect_items<R: Wait + Abort>(
-    rt: &R,
-    alloc: Global,
-    stream: &Stream<Number>,
-    pass: &mut Pass<Number>,
-    stores: u64,
-    values: &[u64],
-)
-    requires { place_of_pass pass.old ≡ place_of stream.now }
-    ensures { place_of_pass pass.new ≡ place_of_pass pass.old }
-{
-    let parts = stream.look(rt, alloc, pass).expect(rt, "memory");
-    let front = values.len() as u64;
-    assert_eq!(rt; (parts.stores(), parts.front()), (stores, front));
-    let mut position = 1u64;
-    for value in values {
-        let found = parts.at(position).map(|item| item.value);
-        assert_eq!(rt; found, Some(*value), "at {position}");
-        position = position.saturating_add(1);
-    }
 }
 
 /// A pen of a stream with a block of one position.
@@ -294,6 +275,64 @@ fn passes_meet_and_note(rt: HostRuntime) {
     expect_items(&rt, alloc, &stream, &mut other, 1, &[10]);
 }
 
+/// A block of 256 numbers, from 0 on.
+fn numbers(alloc: Global) -> Result<Seq<Number>, Memory>
+    ensures { IfOk result (λ items. length items ≡ 256) }
+{
+    let mut items = Seq::new(alloc);
+    'values: for value in 0..256u64 {
+        items.push(Number { value })?;
+    }
+    Ok(items)
+}
+
+/// Stores some blocks of 256 numbers, and looks at all items.
+fn after_blocks<R: Wait + Abort>(
+    rt: &R,
+    alloc: Global,
+    stream: &Stream<Number>,
+    pen: &mut Pen<Number>,
+    pass: &mut Pass<Number>,
+    blocks: u8,
+) -> Parts<Number>
+    requires pen { place_of_pen pen.old ≡ place_of stream.now }
+    requires free { (known pen.old).block ≡ None }
+    requires pass { place_of_pass pass.old ≡ place_of stream.now }
+    ensures pen { place_of_pen pen.new ≡ place_of_pen pen.old }
+    ensures free { (known pen.new).block ≡ None }
+    ensures pass { place_of_pass pass.new ≡ place_of_pass pass.old }
+{
+    'stores: for _ in 0..blocks {
+        stream.reserve(rt, pen, 256).expect(rt, "memory");
+        let drawn = stream.draw(pen, 256).expect(rt, "room");
+        let items = numbers(alloc).expect(rt, "memory");
+        stream.finish(rt, pen, drawn, items);
+    }
+    stream.look(rt, alloc, pass).expect(rt, "memory")
+}
+
+fn value_at(parts: &Parts<Number>, position: u64) -> Option<u64> {
+    parts.at(position).map(|item| item.value)
+}
+
+#[test]
+fn later_parts_share_the_segments_of_earlier_ones(rt: HostRuntime) {
+    let alloc = rt.alloc();
+    let (stream, pens, mut pass) = stream::<Number>(alloc, 3, 2000).expect(&rt, "memory");
+    let mut first = first_pen(&stream, pens);
+    let before = after_blocks(&rt, alloc, &stream, &mut first, &mut pass, 3);
+    let after = after_blocks(&rt, alloc, &stream, &mut first, &mut pass, 2);
+    assert_eq!(rt; (before.front(), after.front()), (768, 1280));
+    assert_eq!(rt;
+        (value_at(&before, 768), value_at(&before, 769)),
+        (Some(255), None)
+    );
+    assert_eq!(rt;
+        (value_at(&after, 1024), value_at(&after, 1025)),
+        (Some(255), Some(0))
+    );
+}
+
 /// A pen of a stream without a block.
 #[derive(Drop)]
 struct Writer<'a> {
@@ -357,6 +396,9 @@ fn threads_store_side_by_side(rt: HostRuntime) {
 }
 
 #[test]
-fn the_law_holds_of_numbers() {
+fn laws_hold_of_numbers() {
     seats_see_one_history::<Number>();
+    steps_keep_history::<Number>();
+    streams_cross_threads::<Number>();
+    writers_cross_threads::<Numbers>();
 }

@@ -6,7 +6,7 @@ ghost use Rattle.mx_front.specs.Start.{AreNewPens};
 ghost use Rattle.mx_writers.specs.Shown.{place_of_shard};
 ghost use Rattle.mx_writers.specs.Start.{AreFreshFolds};
 
-use crate::runs::ends_of_runs;
+use crate::shown::{ends_of_runs, expect_items};
 use mx_front::{Pass, Pen, Stream, stream};
 use mx_ids::{Memory, Seq};
 use mx_writers::{
@@ -63,27 +63,6 @@ fn first_shard(
     Ok(shard(0, 0, numbers(alloc, 0)?, pen))
 }
 
-/// A look of a pass sees just these numbers in this order, each in a store of its own.
-fn expect_items<R: Wait + Abort>(
-    rt: &R,
-    alloc: Global,
-    stream: &Stream<Number>,
-    pass: &mut Pass<Number>,
-    values: &[u64],
-)
-    requires { place_of_pass pass.old ≡ place_of stream.now }
-{
-    let parts = stream.look(rt, alloc, pass).expect(rt, "memory");
-    let count = values.len() as u64;
-    assert_eq!(rt; (parts.stores(), parts.front()), (count, count));
-    let mut position = 1u64;
-    for value in values {
-        let found = parts.at(position).map(|item| item.value);
-        assert_eq!(rt; found, Some(*value), "at {position}");
-        position = position.saturating_add(1);
-    }
-}
-
 fn expect_write_in<R: Wait + Abort>(
     rt: &R,
     alloc: Global,
@@ -96,7 +75,10 @@ fn expect_write_in<R: Wait + Abort>(
     ensures { place_of_shard shard.new ≡ place_of_shard shard.old }
 {
     let mut watch = Watch::new(&Open);
-    assert_eq!(rt; write_in(rt, alloc, stream, shard, draft, &mut watch), answer);
+    assert_eq!(rt;
+        write_in(rt, alloc, stream, shard, draft, &mut watch),
+        answer
+    );
 }
 
 fn expect_own_stores<R: Wait + Abort>(
@@ -118,7 +100,7 @@ fn a_writer_decides_on_its_own_stores(rt: HostRuntime) {
     let (stream, pens, mut pass) = stream::<Number>(alloc, 2, 10).expect(&rt, "memory");
     let mut first = first_shard(alloc, &stream, pens).expect(&rt, "memory");
     expect_own_stores(&rt, alloc, &stream, &mut first);
-    expect_items(&rt, alloc, &stream, &mut pass, &[5, 7]);
+    expect_items(&rt, alloc, &stream, &mut pass, 2, &[5, 7]);
 }
 
 fn expect_write<R: Wait + Abort>(
@@ -184,7 +166,7 @@ fn two_writers_write_in_turn_until_the_stream_is_full(rt: HostRuntime) {
     let (writers, mut pass) = two(alloc, 3).expect(&rt, "memory");
     expect_turns(&rt, alloc, &writers, &mut pass);
     expect_writes_go_on(&rt, alloc, &writers, &mut pass);
-    expect_items(&rt, alloc, writers.stream(), &mut pass, &[10, 20, 30]);
+    expect_items(&rt, alloc, writers.stream(), &mut pass, 3, &[10, 20, 30]);
 }
 
 /// The second writer and a pass of its own.
@@ -270,7 +252,7 @@ fn a_held_block_holds_the_front(rt: HostRuntime) {
     let alloc = rt.alloc();
     let (writers, mut pass) = two(alloc, 10).expect(&rt, "memory");
     expect_second_between(&rt, alloc, &writers, &mut pass);
-    expect_items(&rt, alloc, writers.stream(), &mut pass, &[10, 20]);
+    expect_items(&rt, alloc, writers.stream(), &mut pass, 2, &[10, 20]);
 }
 
 /// Writes fifty numbers from `from` on, each by one more own store.

@@ -9,3 +9,6 @@ returns-clause-says_setting c = law.says_setting
 
 pub returns-clause-says_names : goal.returns-clause-says_names
 returns-clause-says_names c = law.says_names
+
+pub returns-clause-rooms_say : goal.returns-clause-rooms_say
+returns-clause-rooms_say c = law.rooms_say

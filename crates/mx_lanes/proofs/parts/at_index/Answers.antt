@@ -1,7 +1,6 @@
-use Rattle.std.proofs.Common.{◌≡◌, ◌++◌, ◌/◌, ◌%◌, ◌-◌, ◌+◌, ◌*◌, ◌≤◌, List, [], ◌∷◌, true, length, take, slice_get, IfOk, length-append, append-nil, sym, ap, ap₂, subst, ◌∙◌, arith}
-use Rattle.std.proofs.lemmas.Result.{IfOk-weaker}
-use Rattle.mx_lanes.specs.Segments.{all_full, joined}
-use Rattle.mx_lanes.proofs.Joined.{by_place, small_rest, size_at, size_joined, size_taken, at_full, at_tail, take_full, take_tail, all_taken, joined_more, all_more, rejoined, tail_fits, rest_fits, cut_full, cut_all, cut_tail, front_is}
+use Rattle.std.proofs.Common.{◌++◌, ◌/◌, ◌%◌, ◌-◌, ◌*◌, [], length, slice_get, sym, ap, ◌∙◌}
+use Rattle.mx_lanes.specs.Segments.{joined}
+use Rattle.mx_lanes.proofs.Joined.{by_place, small_rest, at_full, at_tail, rejoined}
 use Rattle.mx_lanes.proofs.parts.at_index.Goals as goal
 
 pub returns-then-place-full : goal.returns-then-place-full

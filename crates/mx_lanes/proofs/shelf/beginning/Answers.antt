@@ -1,7 +1,6 @@
-use Rattle.std.proofs.Common.{◌≡◌, ◌++◌, ◌/◌, ◌%◌, ◌-◌, ◌+◌, ◌*◌, ◌≤◌, List, [], ◌∷◌, true, length, take, slice_get, IfOk, length-append, append-nil, sym, ap, ap₂, subst, ◌∙◌, arith}
+use Rattle.std.proofs.Common.{◌/◌, length}
 use Rattle.std.proofs.lemmas.Result.{IfOk-weaker}
-use Rattle.mx_lanes.specs.Segments.{all_full, joined}
-use Rattle.mx_lanes.proofs.Joined.{by_place, small_rest, size_at, size_joined, size_taken, at_full, at_tail, take_full, take_tail, all_taken, joined_more, all_more, rejoined, tail_fits, rest_fits, cut_full, cut_all, cut_tail, front_is}
+use Rattle.mx_lanes.proofs.Joined.{tail_fits, rest_fits, cut_full, cut_all, cut_tail}
 use Rattle.mx_lanes.proofs.shelf.beginning.Goals as goal
 
 pub cut-requires-clause-rest : goal.cut-requires-clause-rest

@@ -1,4 +1,3 @@
-use Rattle.std.proofs.Common.{ap, ◌∙◌, ◌++◌}
 use Rattle.mx_lanes.specs.Order.{by_index}
 use Rattle.mx_lanes.proofs.Books.{shelved_more}
 use Rattle.mx_lanes.proofs.shelving.shelve_from.Goals as goal
