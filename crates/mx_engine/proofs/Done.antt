@@ -1,5 +1,5 @@
 -- What is asked is answered as it should be.
-use Rattle.std.proofs.Common.{◌≡◌, ℕ, List, [], ◌∷◌, Bool, true, false, cond, Option, Some, None, Result, Ok, Err, length, refl, sym, ap, ◌∙◌, subst}
+use Rattle.std.proofs.Common.{◌≡◌, ℕ, List, [], true, false, Option, None, Result, Ok, Err, length, refl, sym, ap, ◌∙◌, subst}
 use Rattle.mx_account.specs.declared.entry.Entry.{Entry}
 use Rattle.mx_core.specs.Covered.{covered, front_of}
 use Rattle.mx_core.specs.History.{own, Begins}
@@ -11,17 +11,18 @@ use Rattle.mx_event.specs.declared.event.Event.{Event}
 use Rattle.mx_front.specs.Calls.{Shows}
 use Rattle.mx_ids.specs.declared.sync_token.SyncToken.{SyncToken}
 use Rattle.mx_lanes.specs.Parts.{Taken}
+use Rattle.mx_lanes.proofs.UpTo.{up_to_front}
 use Rattle.mx_receipt.specs.declared.receipt.Receipt.{Receipt}
 use Rattle.mx_writers.specs.Decision.{Decision}
 use Rattle.mx_writers.specs.declared.answers.Written.{Written}
 use Rattle.mx_writers.specs.declared.answers.Refused.{Refused}
 use Rattle.mx_writers.specs.declared.answers.Refused.TheVariants.{Fault, Full, Memory}
-use Rattle.mx_engine.specs.Answers.{Act, AllBegin, IsDone, IsRead, KeepsAct, Lists, Puts, Reads, Sends, Stops, act_said, counts, counts_of, event_refusal, lane_of, never, reading, told_at, write_stored}
-use Rattle.mx_engine.specs.Asked.{Aimed, Write}
+use Rattle.mx_engine.specs.Answers.{Act, AllBegin, IsDone, KeepsAct, Lists, Puts, Reads, Sends, Stops, counts, counts_of, event_refusal, lane_of, never, reading, sync_said, told_at, write_stored}
+use Rattle.mx_engine.specs.Asked.{Aimed}
 use Rattle.mx_engine.specs.Decided.{decided_entry, entry_placed}
 use Rattle.mx_engine.specs.EventsDecided.{decided_events, plan_of}
 use Rattle.mx_engine.specs.Plans.{decided_plan}
-use Rattle.mx_engine.specs.Written.{IsWritten, KeepsMark, mark_by, said_by}
+use Rattle.mx_engine.specs.Written.{IsWritten, mark_by, said_by}
 use Rattle.mx_engine.specs.declared.accounts.Never.{Never}
 use Rattle.mx_engine.specs.declared.aim.Told.{Told}
 use Rattle.mx_engine.specs.declared.answered.Answered.{Answered}
@@ -39,6 +40,16 @@ mark_seen k seen now (Ok w) = refl
 mark_seen k seen now (Err (Fault f m)) = refl
 mark_seen k seen now (Err (Full n m)) = refl
 mark_seen k seen now (Err Memory) = refl
+
+pub mark_now : {E : Type 0} (k : ℕ) (seen : Counts) (now : ℕ) (r : Result Written (Refused E)) → (mark_by k seen now r).now ≡ now
+mark_now k seen now (Ok w) = refl
+mark_now k seen now (Err (Fault f m)) = refl
+mark_now k seen now (Err (Full n m)) = refl
+mark_now k seen now (Err Memory) = refl
+
+-- what is shown is what is covered
+shown_covered : {I : Type 0} (h : List (Stored I)) (parts : Taken I) → Shows h parts → parts.items ≡ covered h
+shown_covered h parts s = (up_to_front h s.front parts s.is s.parts).0
 
 pub all_self : (lists : Lists) → AllBegin lists lists
 all_self lists = record { events = begins_self lists.events; receipts = begins_self lists.receipts; accounts = begins_self lists.accounts }
@@ -69,6 +80,15 @@ module _ (stops : Stops) where
   reads_done reads now old new a s begins is told mark =
       with_mark (Reads reads) old new a s (reading now new) told mark
       (record { seen = refl; begins = begins; said_is = is; keeps = record { lane = refl; own_is = refl; full = refl } })
+
+  pub sync_done : (user : List ℕ) (since : Option SyncToken) (now : ℕ) (old new : Lists) (a : Answered) (s : Said) (events : Taken Event) (receipts : Taken Receipt) (accounts : Taken Entry) → AllBegin old new
+      → Shows new.events events → Shows new.receipts receipts → Shows new.accounts accounts → s ≡ sync_said user (length events.items) (length receipts.items) accounts.items since → a.said ≡ s → a.mark ≡ reading now new
+      → IsDone stops (Reads (λ lists. sync_said user (front_of lists.events) (front_of lists.receipts) (covered lists.accounts) since)) old new a
+  sync_done user since now old new a s events receipts accounts begins es rs acc is told mark =
+      let e : length events.items ≡ front_of new.events = ap length (shown_covered new.events events es) in
+      let r : length receipts.items ≡ front_of new.receipts = ap length (shown_covered new.receipts receipts rs) in
+      let l : accounts.items ≡ covered new.accounts = shown_covered new.accounts accounts acc in
+      reads_done (λ lists. sync_said user (front_of lists.events) (front_of lists.receipts) (covered lists.accounts) since) now old new a s begins (is ∙ (λ i. sync_said user (e i) (r i) (l i) since)) told mark
 
   pub refused_done : (r : Refusal) (aimed : Aimed) (now : ℕ) (old new : Lists) (a : Answered) → AllBegin old new → Err r ≡ aimed → a.said ≡ said.Refused r → a.mark ≡ reading now new → IsDone stops (Sends aimed) old new a
   refused_done r aimed now old new a begins is told mark =

@@ -1,4 +1,8 @@
+pub mod Agreement
 pub mod Blocked
+pub mod LastContents
 pub mod Done
+pub mod Exchanges
 pub mod Marked
+pub mod Memberships
 pub mod Users

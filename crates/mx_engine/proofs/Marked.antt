@@ -1,7 +1,6 @@
 -- A write in terms of what its pass has seen, what is told of it, and the law of its mark.
-use Rattle.std.proofs.Common.{◌≡◌, ℕ, ◌+◌, ◌<◌, ◌≤◌, ◌==◌, List, [], ◌∷◌, ◌++◌, Bool, true, false, cond, Option, Some, None, Result, Ok, Err, length, take, refl, sym, ap, ◌∙◌, subst, arith, eqb, length-append}
+use Rattle.std.proofs.Common.{◌≡◌, ℕ, ◌+◌, ◌≤◌, List, [], ◌∷◌, ◌++◌, true, false, cond, Option, Some, None, Result, Ok, Err, length, take, refl, sym, ap, ◌∙◌, subst, arith, eqb, length-append}
 use Rattle.std.specs.List.{slice_get}
-use Rattle.std.specs.Prelude.{if◌then◌else◌}
 use Rattle.std.proofs.lemmas.Bool.{ne_eqb}
 use Rattle.std.proofs.lemmas.List.{take_all, take-append-le}
 use Rattle.mx_core.specs.declared.history.Stored.{Stored}
@@ -13,10 +12,9 @@ use Rattle.mx_front.specs.declared.view.View.{View}
 use Rattle.mx_writers.specs.declared.answers.Written.{Written}
 use Rattle.mx_writers.specs.declared.answers.Refused.{Refused}
 use Rattle.mx_writers.specs.declared.answers.Refused.TheVariants.{Fault, Full, Memory}
-use Rattle.mx_writers.specs.Decision.{Decision, Placing, store_of, with_store}
+use Rattle.mx_writers.specs.Decision.{Decision, Placing, store_of}
 use Rattle.mx_writers.specs.Writes.{WritesBy, WritesSeen}
 use Rattle.mx_engine.specs.declared.answered.Counts.{Counts}
-use Rattle.mx_engine.specs.declared.answered.Mark.{Mark}
 use Rattle.mx_engine.specs.declared.said.Said.{Said}
 use Rattle.mx_engine.specs.declared.said.Said.TheVariants as said
 use Rattle.mx_engine.specs.declared.said.Refusal.{Refusal}

@@ -1,5 +1,5 @@
 -- *Answer*: what is told on the lists at a mark, and the law of a mark.
-use Rattle.std.specs.Prelude.{◌≡◌, ℕ, ◌≤◌, List, [], ◌∷◌, Bool, true, false, Option, Some, None, Ok, Err, length, take, drop, slice_get, option_map, option_and_then, unwrap_or, nat_lt, if◌then◌else◌}
+use Rattle.std.specs.Prelude.{◌≡◌, ℕ, List, [], false, Option, Some, None, Ok, Err, length, take, drop, slice_get, option_map, option_and_then, unwrap_or, nat_lt, if◌then◌else◌}
 use Rattle.mx_account.specs.Data.{data_of}
 use Rattle.mx_account.specs.declared.entry.Entry.{Entry}
 use Rattle.mx_core.specs.Covered.{covered, front_of}
@@ -12,7 +12,7 @@ use Rattle.mx_receipt.specs.declared.receipt.Receipt.{Receipt}
 use Rattle.mx_room.specs.declared.fault.RoomFault.{RoomFault}
 use Rattle.mx_room.specs.declared.fault.RoomFault.TheVariants as room_faults
 use Rattle.mx_writers.specs.Decision.{Decision, Stores, Keeps, Refuses}
-use Rattle.mx_engine.specs.Asked.{Aimed, Site, Write, ban_aimed, create_aimed, create_refusal, invite_aimed, join_aimed, kick_aimed, leave_aimed, put_entry, redact_aimed, send_aimed, state_aimed, unban_aimed, writer_for}
+use Rattle.mx_engine.specs.Asked.{Aimed, Site, ban_aimed, create_aimed, create_refusal, invite_aimed, join_aimed, kick_aimed, leave_aimed, put_entry, redact_aimed, send_aimed, state_aimed, unban_aimed, writer_for}
 use Rattle.mx_engine.specs.Decided.{decided_entry, entry_placed}
 use Rattle.mx_engine.specs.Plans.{decided_plan}
 use Rattle.mx_engine.specs.Written.{KeepsMark, mark_of}

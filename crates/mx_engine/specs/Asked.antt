@@ -1,13 +1,12 @@
 -- What a request asks of the streams, one definition for each thing that may be asked.
-use Rattle.std.specs.Prelude.{◌≡◌, ℕ, ◌-◌, ◌^◌, List, [], ◌∷◌, Bool, true, false, not, ◌&&◌, Option, Some, None, Result, Ok, Err, codes, nat_lt, position, unwrap_or, ◌%◌, if◌then◌else◌}
-use Rattle.std.specs.List.{list_any}
+use Rattle.std.specs.Prelude.{ℕ, ◌-◌, ◌^◌, List, [], ◌∷◌, Bool, not, ◌&&◌, Option, Some, None, Result, Ok, Err, codes, nat_lt, position, unwrap_or, ◌%◌, if◌then◌else◌}
 use Rattle.std.specs.Str.{bytes_eq}
 use Rattle.mx_account.specs.declared.entry.Entry.{Entry}
 use Rattle.mx_account.specs.declared.entry.Entry.TheVariants as entry
 use Rattle.mx_create.specs.Blocks.{block_of, is_known}
 use Rattle.mx_create.specs.declared.fault.CreateFault.{CreateFault}
 use Rattle.mx_create.specs.declared.fault.CreateFault.TheVariants as creates
-use Rattle.mx_event.specs.Forms.{member, member_if}
+use Rattle.mx_event.specs.Forms.{member}
 use Rattle.mx_event.specs.Kinds.{is_text, member_type, redaction_type}
 use Rattle.mx_event.specs.State.{membership_in}
 use Rattle.mx_event.specs.declared.draft.Draft.{Draft}

@@ -1,15 +1,14 @@
 -- What the writers of receipts and of account data decide on a draft: each is stored as it is.
-use Rattle.std.proofs.Common.{◌≡◌, ℕ, ◌+◌, ◌^◌, ◌≤◌, true, ◌==◌, List, [], ◌∷◌, Option, Some, None, Result, Ok, Err, length, refl, sym, ap, ◌∙◌, subst, arith}
-use Rattle.mx_core.specs.declared.history.Stored.{Stored}
+use Rattle.std.proofs.Common.{◌≡◌, ℕ, true, List, [], ◌∷◌, refl, ap, subst, arith}
 use Rattle.mx_core.specs.History.{placed_from}
 use Rattle.std.proofs.lemmas.Bool.{eq-eqb}
 use Rattle.mx_account.specs.declared.entry.Entry.{Entry}
 use Rattle.mx_account.specs.declared.entry.Entry.TheVariants as entry
-use Rattle.mx_account.specs.Entries.{are_placed, placed_at, position_of}
+use Rattle.mx_account.specs.Entries.{are_placed, placed_at}
 use Rattle.mx_receipt.specs.declared.receipt.Receipt.{Receipt}
 use Rattle.mx_receipt.specs.Receipts as receipts
 use Rattle.mx_engine.specs.declared.accounts.Never.{Never}
-use Rattle.mx_writers.specs.Decision.{Decision, Stores, Keeps, Refuses, AreLawful, CanBeStored, MayFollow}
+use Rattle.mx_writers.specs.Decision.{Decision, Stores, AreLawful, CanBeStored}
 
 -- an entry as it stands in a block
 abbrev pub entry_placed : Entry → ℕ → ℕ → Entry
@@ -41,7 +40,7 @@ receipt_placed r first at = receipts.placed_at r at
 abbrev pub decided_receipt : Receipt → Decision Receipt Never
 decided_receipt r = Stores (r ∷ [])
 
-receipts_in : Decision Receipt Never → List Receipt
+abbrev receipts_in : Decision Receipt Never → List Receipt
 receipts_in (Stores xs) = xs
 receipts_in d = []
 

@@ -1,13 +1,12 @@
 -- What a writer of events decides by its own stores, and that it may be stored.
-use Rattle.std.proofs.Common.{◌≡◌, ℕ, ◌<◌, ◌≤◌, Bool, true, false, List, [], ◌∷◌, Option, Some, None, Result, Ok, Err, length, map, ◌+◌, ◌++◌, ◌==◌, refl, sym, ap, ◌∙◌, subst, arith}
+use Rattle.std.proofs.Common.{◌≡◌, ℕ, ◌<◌, ◌≤◌, Bool, true, false, List, [], ◌∷◌, Option, Some, None, Result, Ok, Err, length, ◌+◌, ◌++◌, ◌==◌, refl, ap, ◌∙◌, subst, arith}
 use Rattle.std.specs.List.{AllByRecursion}
 use Rattle.std.specs.Option.{option_or, is_some}
 use Rattle.std.proofs.lemmas.Bool.{and_parts, eqb-true, or_left, or_right}
 use Rattle.std.proofs.lemmas.List.{length-map}
 use Rattle.mx_core.specs.declared.history.Stored.{Stored}
-use Rattle.mx_core.specs.History.{placed_from, own, item_of, items_of, is_stored, keeps_law}
+use Rattle.mx_core.specs.History.{IsLane, own, item_of, items_of, is_stored, keeps_law}
 use Rattle.mx_core.proofs.Histories.{is_stored-append, item_of_within}
-use Rattle.mx_ids.specs.declared.event_id.EventId.{EventId}
 use Rattle.mx_event.specs.declared.event.Event.{Event}
 use Rattle.mx_event.specs.declared.draft.Draft.{Draft}
 use Rattle.mx_event.specs.State.{is_joined}
@@ -17,20 +16,19 @@ use Rattle.mx_room.specs.declared.admitted.Admitted.TheVariants as admitted
 use Rattle.mx_room.specs.declared.admitted.Ready.{Ready}
 use Rattle.mx_room.specs.declared.fault.RoomFault.{RoomFault}
 use Rattle.mx_room.specs.Admitting.{admitted_by}
-use Rattle.mx_room.specs.Books.{Rooms, events_of, room_events}
+use Rattle.mx_room.specs.Books.{room_events}
 use Rattle.mx_room.specs.Storing.{IsLawful}
 use Rattle.mx_room.proofs.Lawful.{ready_lawful}
 use Rattle.mx_create.specs.declared.fault.CreateFault.{CreateFault}
 use Rattle.mx_create.specs.Admitted.{IsBlock, admitted_block, made}
 use Rattle.mx_create.proofs.Admitting.{admitted_are, both}
 use Rattle.mx_create.proofs.Placing.{block_lawful}
-use Rattle.mx_writers.specs.Decision.{Decision, Stores, Keeps, Refuses, AreLawful, CanBeStored, MayFollow, IsLane}
+use Rattle.mx_writers.specs.Decision.{Decision, Stores, AreLawful, CanBeStored}
 use Rattle.mx_create.proofs.Tests.{block_from}
 use Rattle.mx_engine.specs.Plans.{Plan, One, Join, Unban, Block, by_block, by_room, decided_plan, rooms_of, unless_joined, with_ban, is_one_banned}
 use Rattle.mx_engine.specs.declared.events.EventDraft.{EventDraft}
 use Rattle.mx_engine.specs.declared.events.EventDraft.TheVariants as drafts
 use Rattle.mx_engine.specs.declared.events.EventFault.{EventFault}
-use Rattle.mx_engine.specs.declared.events.EventFault.TheVariants as faults
 
 abbrev pub plan_of : EventDraft → Plan
 plan_of (drafts.One d) = One d

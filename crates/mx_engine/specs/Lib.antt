@@ -1,7 +1,9 @@
 pub mod Answers
 pub mod Asked
+pub mod Chains
 pub mod Decided
 pub mod EventsDecided
+pub mod Exchanges
 pub mod Plans
 pub mod Shown
 pub mod Waiting

@@ -2,6 +2,7 @@
 use Rattle.std.specs.Prelude.{◌≡◌, ℕ, ◌<◌, Ok, Err, true}
 use Rattle.mx_create.specs.Bodies.{is_create_body}
 use Rattle.mx_front.specs.Shown.{place_of, place_of_pass, reads, seen_by, stop_of}
+use Rattle.mx_writers.specs.declared.gate.Gate.{Ghosts}
 use Rattle.mx_engine.specs.Answers.{Lists, Stops}
 use Rattle.mx_engine.specs.Asked.{Aimed, Site}
 use Rattle.mx_engine.specs.EventsDecided.{plan_of}
@@ -41,16 +42,16 @@ abbrev pub IsWithin : ℕ → Aim → Type 0
 IsWithin writers (aim.Refused r) = Unit {0}
 IsWithin writers (aim.Write k draft told) = k < writers
 
-module _ {G : Type 0} where
-  abbrev pub site_of : Engine G → Site
+module _ {G : Type 0} {g : Ghosts G} where
+  abbrev pub site_of : Engine G g → Site
   site_of e = record { users = e.users; writers = e.workers }
 
   -- the pass is one of the engine's streams
-  pub record Ties (e : Engine G) (p : EnginePass) : Type 0 where
+  pub record Ties (e : Engine G g) (p : EnginePass) : Type 0 where
     pub events : place_of_pass p.events ≡ place_of e.events.stream
     pub receipts : place_of_pass p.receipts ≡ place_of e.receipts.stream
     pub accounts : place_of_pass p.accounts ≡ place_of e.accounts.stream
 
   -- of each stream no block is drawn once this many positions were
-  abbrev pub stops_of : Engine G → Stops
+  abbrev pub stops_of : Engine G g → Stops
   stops_of e = record { events = stop_of e.events.stream; receipts = stop_of e.receipts.stream; accounts = stop_of e.accounts.stream }

@@ -1,5 +1,5 @@
 -- A write through a pass, in terms of what the pass had seen and has seen, and the law of its mark.
-use Rattle.std.specs.Prelude.{◌≡◌, ℕ, ◌+◌, ◌≤◌, ◌==◌, List, [], ◌∷◌, Bool, true, false, Option, Some, None, Result, Ok, Err, length, slice_get, if◌then◌else◌}
+use Rattle.std.specs.Prelude.{◌≡◌, ℕ, ◌+◌, ◌≤◌, ◌==◌, List, [], Bool, true, false, Option, Some, None, Result, Ok, Err, length, slice_get, if◌then◌else◌}
 use Rattle.mx_core.specs.declared.history.Stored.{Stored}
 use Rattle.mx_core.specs.History.{own, stored_count, Begins}
 use Rattle.mx_writers.specs.declared.answers.Written.{Written}

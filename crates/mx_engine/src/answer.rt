@@ -1,9 +1,6 @@
 //! The answer to what a user asks.
 
-ghost use Rattle.std.specs.Prelude.{◌≡◌, ◌<◌, ◌≤◌, [], ◌∷◌, None, true, IfOk, IfNone, IfSome, drop, length, option_and_then};
-ghost use Rattle.mx_account.specs.Data.{data_of};
-ghost use Rattle.mx_core.specs.History.{items_of};
-ghost use Rattle.mx_create.specs.Bodies.{is_create_body};
+ghost use Rattle.std.specs.Prelude.{◌≡◌, IfOk, option_and_then};
 ghost use Rattle.mx_front.specs.Calls.{Shows};
 ghost use Rattle.mx_engine.specs.Answers.{AllBegin, IsAnswered, IsDone, account_at, ahead_of, begun_at, sync_said, whoami_said};
 ghost use Rattle.mx_engine.specs.Asked.{put_entry};
@@ -14,10 +11,9 @@ use crate::answered::Answered;
 use crate::ask::{Ask, Who};
 use crate::held::{Engine, EnginePass};
 use crate::said::{Refusal, Reply, Said};
-use mx_account::{Entry, data_of};
-use mx_core::Stored;
+use mx_account::{Entry, data_after};
 use mx_event::Event;
-use mx_ids::{Copied, Memory, Seq, SyncToken, Text, UserId};
+use mx_ids::{Copied, Memory, SyncToken, Text, UserId};
 use mx_json::Json;
 use mx_lanes::Parts;
 use mx_receipt::Receipt;
@@ -105,7 +101,14 @@ impl<G: Gate + Drop> Engine<G> {
             Ask::Sync { since } => self.sync(rt, alloc, pass, now, who, since),
             Ask::PutAccount { kind, content } => {
                 let shard = self.writer_for(&who.user);
-                self.put(rt, alloc, pass, now, shard, entry(alloc, who, kind, content))
+                self.put(
+                    rt,
+                    alloc,
+                    pass,
+                    now,
+                    shard,
+                    entry(alloc, who, kind, content),
+                )
             }
         }
     }
@@ -222,7 +225,7 @@ fn sync_said(
     if let Some(refusal) = refusal_of(since, e, r, a) {
         return Ok(Said::Refused(refusal));
     }
-    let account = data_after(alloc, user, accounts.items(), since)?;
+    let account = data_after(alloc, user, None, accounts, account_at(since))?;
     Ok(Said::Synced(Reply {
         since,
         next: SyncToken {
@@ -245,49 +248,19 @@ fn begun_at(e: u64, since: Option<SyncToken>) -> u64
     }
 }
 
-/// The global account data of a user that are set behind a token.
-fn data_after(
-    alloc: Global,
-    user: &UserId,
-    entries: &[Entry],
-    since: Option<SyncToken>,
-) -> Result<Seq<(Text, Json)>, Memory>
-    requires { account_at since ≤ length entries.now }
-    ensures { IfOk result (λ made. made ≡ data_of user.now None (drop (account_at since) entries.now)) }
-{
-    let store = one_store(alloc, entries_after(entries, since))?;
-    data_of(alloc, user, None, &[store])
-}
-
-fn entries_after(entries: &[Entry], since: Option<SyncToken>) -> &[Entry]
-    requires { account_at since ≤ length entries.now }
-    ensures { result.now ≡ drop (account_at since) entries.now }
+/// The position of account data behind which a sync tells what was set.
+fn account_at(since: Option<SyncToken>) -> u64
+    ensures { result ≡ account_at since }
 {
     match since {
-        None => entries,
-        Some(token) => &entries[token.a as usize..],
+        None => 0,
+        Some(token) => token.a,
     }
-}
-
-/// One store of copies.
-fn one_store(alloc: Global, entries: &[Entry]) -> Result<Stored<Entry>, Memory>
-    ensures { IfOk result (λ s. items_of (s ∷ []) ≡ entries.now) }
-{
-    let mut items = Vec::with_capacity(alloc, entries.len())?;
-    'entries: for entry in entries {
-        items.push(entry.copy(alloc)?)?;
-    }
-    Ok(Stored {
-        writer: 0,
-        first: 1,
-        items: Seq::from_vec(items),
-    })
 }
 
 /// Why a token that a sync is to follow is refused.
 fn refusal_of(since: Option<SyncToken>, e: u64, r: u64, a: u64) -> Option<Refusal>
-    ensures refusal { result ≡ option_and_then (λ token. ahead_of token e r a) since }
-    ensures within { IfNone result (account_at since ≤ a) }
+    ensures { result ≡ option_and_then (λ token. ahead_of token e r a) since }
 {
     match since {
         Some(token) => ahead_of(token, e, r, a),
@@ -297,8 +270,7 @@ fn refusal_of(since: Option<SyncToken>, e: u64, r: u64, a: u64) -> Option<Refusa
 
 /// The first component of a token that exceeds its stream's front.
 fn ahead_of(token: SyncToken, e: u64, r: u64, a: u64) -> Option<Refusal>
-    ensures refusal { result ≡ ahead_of token e r a }
-    ensures within { IfNone result (token.a ≤ a) }
+    ensures { result ≡ ahead_of token e r a }
 {
     if e < token.e {
         return Some(ahead(token.e, e));

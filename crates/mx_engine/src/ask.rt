@@ -17,7 +17,9 @@ pub enum Ask {
     /// Who asks (Client-Server API, `GET /account/whoami`).
     WhoAmI,
     /// To create a room (`POST /createRoom`). The body is one that `mx_create::is_create_body` accepts.
-    CreateRoom { body: Json },
+    CreateRoom {
+        body: Json,
+    },
     /// To send a message event to a room (`PUT /rooms/{roomId}/send/{eventType}/{txnId}`).
     Send {
         room: Text,
@@ -40,9 +42,15 @@ pub enum Ask {
         reason: Option<Text>,
     },
     /// To join a room (`POST /join/{roomIdOrAlias}`, `POST /rooms/{roomId}/join`).
-    Join { room: Text, reason: Option<Text> },
+    Join {
+        room: Text,
+        reason: Option<Text>,
+    },
     /// To leave a room (`POST /rooms/{roomId}/leave`).
-    Leave { room: Text, reason: Option<Text> },
+    Leave {
+        room: Text,
+        reason: Option<Text>,
+    },
     /// To invite a user (`POST /rooms/{roomId}/invite`).
     Invite {
         room: Text,
@@ -68,9 +76,14 @@ pub enum Ask {
         reason: Option<Text>,
     },
     /// A sync (`GET /sync`).
-    Sync { since: Option<SyncToken> },
+    Sync {
+        since: Option<SyncToken>,
+    },
     /// To put global account data (`PUT /user/{userId}/account_data/{type}`).
-    PutAccount { kind: Text, content: Json },
+    PutAccount {
+        kind: Text,
+        content: Json,
+    },
 }
 
 /// Who asks what.

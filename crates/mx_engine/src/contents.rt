@@ -24,10 +24,13 @@ pub(crate) fn member_content(
         "membership",
         Json::Text(text(alloc, membership)?),
     )?;
-    if let Some(reason) = reason {
-        put(alloc, &mut members, "reason", Json::Text(reason))?;
+    match reason {
+        None => Ok(Json::Object(members)),
+        Some(reason) => {
+            put(alloc, &mut members, "reason", Json::Text(reason))?;
+            Ok(Json::Object(members))
+        }
     }
-    Ok(Json::Object(members))
 }
 
 /// The content of a redaction (Room Version 11, Redactions).
@@ -39,11 +42,17 @@ pub(crate) fn redaction_content(
     ensures { IfOk result (λ j. j ≡ redaction_content event reason) }
 {
     let mut members = Members::new(alloc);
-    if let Some(reason) = reason {
-        put(alloc, &mut members, "reason", Json::Text(reason))?;
+    match reason {
+        None => {
+            put(alloc, &mut members, "redacts", Json::Text(event))?;
+            Ok(Json::Object(members))
+        }
+        Some(reason) => {
+            put(alloc, &mut members, "reason", Json::Text(reason))?;
+            put(alloc, &mut members, "redacts", Json::Text(event))?;
+            Ok(Json::Object(members))
+        }
     }
-    put(alloc, &mut members, "redacts", Json::Text(event))?;
-    Ok(Json::Object(members))
 }
 
 fn put(alloc: Global, members: &mut Members<Json>, key: &str, value: Json) -> Result<(), Memory>

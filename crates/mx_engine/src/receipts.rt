@@ -2,9 +2,9 @@
 
 use crate::accounts::Never;
 use crate::shelf::Shelf;
-use mx_receipt::Receipt;
 use mx_core::Prepared;
 use mx_ids::Memory;
+use mx_receipt::Receipt;
 use mx_writers::{Folds, Made, Unmade};
 use std::alloc::Global;
 

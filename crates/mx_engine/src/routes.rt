@@ -134,11 +134,7 @@ impl<G: Gate + Drop> Engine<G> {
         };
         let user = who.user.as_text().copy(alloc)?;
         let draft = member_event(alloc, now, who, user, "join", reason, room)?;
-        Ok(Aim::Write(
-            room.writer,
-            EventDraft::Join(draft),
-            Told::Room(room),
-        ))
+        Ok(Aim::Write(room.writer, EventDraft::Join(draft), Told::Room(room)))
     }
 
     /// `POST /rooms/{roomId}/leave`.
@@ -232,11 +228,7 @@ impl<G: Gate + Drop> Engine<G> {
         };
         let banned = user_if(alloc, &user)?;
         let draft = member_event(alloc, now, who, user, "leave", reason, room)?;
-        Ok(Aim::Write(
-            room.writer,
-            EventDraft::Unban(draft, banned),
-            Told::Done,
-        ))
+        Ok(Aim::Write(room.writer, EventDraft::Unban(draft, banned), Told::Done))
     }
 
     /// A member event of a user, of which is told that it was done.
@@ -365,7 +357,7 @@ fn member_event(
 }
 
 /// The user id that a text is, if it is one.
-#[tactic(auto, using(crate::proofs::Users::is_user, crate::proofs::Users::is_none))]
+
 fn user_if(alloc: Global, user: &Text) -> Result<Option<UserId>, Memory>
     ensures { IfOk result (λ id. id ≡ user_if user.now) }
 {

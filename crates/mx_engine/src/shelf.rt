@@ -3,10 +3,9 @@
 ghost use Rattle.std.specs.Prelude.{◌≡◌, ◌+◌, ◌^◌, ◌<◌, ◌≤◌, [], ◌∷◌, ◌++◌, Some, IfOk, length};
 ghost use Rattle.std.specs.Option.{ForSome};
 ghost use Rattle.std.specs.Vec.{vec_len, vec_capacity};
-ghost use Rattle.mx_core.specs.History.{placed_from};
 ghost use Rattle.mx_writers.specs.Decision.{with_store};
 
-use mx_core::{Placed, Prepared, Stored};
+use mx_core::{Placed, Prepared, Stored, placed_at};
 use mx_ids::{Copied, Memory, Seq};
 use std::alloc::Global;
 
@@ -60,18 +59,4 @@ impl<I: Copied + Placed> Shelf<I> {
             });
         }
     }
-}
-
-/// The items as they stand in a block that begins at a position. Takes no memory.
-fn placed_at<I: Copied + Placed>(items: Seq<I>, first: u64) -> Seq<I>
-    requires { first + length items ≤ 2 ^ 48 }
-    ensures items { result ≡ placed_from I.placed first first items }
-{
-    let mut items = items.into_vec();
-    let mut at = first;
-    'items: for item in items.iter_mut() {
-        item.place(first, at);
-        at += 1;
-    }
-    Seq::from_vec(items)
 }
