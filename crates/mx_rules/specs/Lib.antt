@@ -1,0 +1,5 @@
+pub mod Bodies
+pub mod Edits
+pub mod Forms
+pub mod Judging
+pub mod Rules
