@@ -144,7 +144,7 @@ fn put_unplaced<T: Drop>(
 }
 
 /// Puts a rule in the place of the one that has its id, or last.
-fn set_rule<T: Drop>(
+pub(crate) fn set_rule<T: Drop>(
     rules: &mut IndexMap<Text, Rule<T>>,
     id: Text,
     rule: Rule<T>,

@@ -2,12 +2,17 @@
 #![tactic(auto)]
 
 mod body;
+mod builtin;
+mod conditions;
 mod edits;
 mod fault;
 mod judging;
+mod predefined;
 mod rule;
 mod rule_set;
+mod writing;
 
+pub use predefined::defaults;
 pub use fault::{RuleFault, Side};
 pub use rule::{Kind, Rule, Test};
 pub use rule_set::RuleSet;

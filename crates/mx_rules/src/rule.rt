@@ -1,13 +1,12 @@
 //! One push rule, and what it asks beside its kind.
-ghost use Rattle.std.specs.Prelude.{◌≡◌, IfOk, OnOk, List, codes};
+ghost use Rattle.std.specs.Prelude.{◌≡◌, IfOk, OnOk, List};
 ghost use Rattle.mx_json.specs.declared.members.Member.{Member as MemberOf};
 ghost use Rattle.mx_json.specs.declared.value.Json.{Json as JsonValue};
-ghost use Rattle.mx_json.specs.declared.value.Json.TheVariants as json;
-ghost use Rattle.mx_json.specs.Fields.{field};
-ghost use Rattle.mx_json.specs.Keys.{with_member};
-ghost use Rattle.mx_rules.specs.Bodies.{items_of, text_or_none};
+ghost use Rattle.mx_rules.specs.Rules.{conditions_of, pattern_of};
+ghost use Rattle.mx_rules.specs.Writing.{with_conditions, with_nothing, with_pattern};
 
 use crate::body::{items_of, text_or_none};
+use crate::writing::put;
 use mx_ids::{Copied, Memory, Seq, Text};
 use mx_json::{Json, Members};
 use std::alloc::Global;
@@ -52,13 +51,12 @@ pub trait Test: Sized + Drop {
 
 /// Conditions that all hold.
 impl Test for Seq<Json> {
-    ghost asks = { λ js ms. with_member (codes "conditions") (json.List js) ms };
+    ghost asks = { with_conditions };
 
-    ghost asked = { λ body. items_of (field (codes "conditions") body) };
+    ghost asked = { conditions_of };
 
     fn write(&self, alloc: Global, members: &mut Members<Json>) -> Result<(), Memory> {
-        let key = Text::from_string(String::from_str(alloc, "conditions")?);
-        members.set(key, Json::List(self.copy(alloc)?))
+        put(alloc, members, "conditions", Json::List(self.copy(alloc)?))
     }
 
     fn read(alloc: Global, body: &Json) -> Result<Seq<Json>, Memory> {
@@ -68,13 +66,12 @@ impl Test for Seq<Json> {
 
 /// A pattern that the body of the event fits.
 impl Test for Text {
-    ghost asks = { λ t ms. with_member (codes "pattern") (json.Text t) ms };
+    ghost asks = { with_pattern };
 
-    ghost asked = { λ body. text_or_none (codes "pattern") body };
+    ghost asked = { pattern_of };
 
     fn write(&self, alloc: Global, members: &mut Members<Json>) -> Result<(), Memory> {
-        let key = Text::from_string(String::from_str(alloc, "pattern")?);
-        members.set(key, Json::Text(self.copy(alloc)?))
+        put(alloc, members, "pattern", Json::Text(self.copy(alloc)?))
     }
 
     fn read(alloc: Global, body: &Json) -> Result<Text, Memory> {
@@ -84,7 +81,7 @@ impl Test for Text {
 
 /// Nothing: the rule's id says it all.
 impl Test for () {
-    ghost asks = { λ _ ms. ms };
+    ghost asks = { with_nothing };
 
     ghost asked = { λ _. tt };
 
