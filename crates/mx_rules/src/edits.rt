@@ -1,9 +1,9 @@
 //! Changes of the rules of one kind.
-ghost use Rattle.std.specs.Prelude.{◌≡◌, ◌≤◌, None, Some, nat_eq, length, OnOk, OnErr, IfOk, option_map};
+ghost use Rattle.std.specs.Prelude.{◌≡◌, ◌≤◌, ◌<◌, None, Some, nat_eq, length, OnOk, OnErr, IfOk, option_map};
 ghost use Rattle.std.specs.List.{insert};
 ghost use Rattle.std.specs.Cmp.Lexicographic.{pointwise};
 ghost use Rattle.std.specs.Map.{lookup};
-ghost use Rattle.indexmap.specs.IndexMap.{get, insert_entry};
+ghost use Rattle.indexmap.specs.IndexMap.{get, insert_entry, spare};
 ghost use Rattle.mx_rules.specs.Edits.{action_fault, before_id, behind_id, behind_master, has_neighbour, is_enabled, is_id, neighbour_fault, new_rule, no_rule, put_before, put_behind, put_in, put_unplaced, with_actions, with_enabled, without};
 ghost use Rattle.mx_rules.specs.Bodies.{items_of};
 ghost use Rattle.mx_rules.specs.Judging.{Judges};
@@ -13,7 +13,7 @@ use crate::fault::{RuleFault, Side};
 use crate::judging::are_actions;
 use crate::rule::{Rule, Test};
 use indexmap::IndexMap;
-use mx_ids::{Copied, Memory, Text};
+use mx_ids::{Copied, Memory, Seq, Text};
 use mx_json::Json;
 use std::alloc::Global;
 
@@ -28,6 +28,7 @@ pub(crate) fn put_rule<T: Test>(
 ) -> Result<(), RuleFault>
     ensures judged { Judges result (neighbour_fault (option_map (λ t. t.now) before.entry) (option_map (λ t. t.now) after.entry) rules.old.entries) }
     ensures ok { OnOk result (rules.new.entries ≡ put_in id.now (new_rule (T.asked body.now) id.now body.now rules.old.entries) (option_map (λ t. t.now) before.entry) (option_map (λ t. t.now) after.entry) rules.old.entries) }
+    ensures same { OnErr result (rules.new.entries ≡ rules.old.entries) }
 {
     if !has_neighbour(rules, before) {
         return Err(RuleFault::NoNeighbour(Side::Before));
@@ -86,7 +87,8 @@ fn put_in<T: Drop>(
     before: Option<&Text>,
     after: Option<&Text>,
 ) -> Result<(), Memory>
-    ensures { OnOk result (rules.new.entries ≡ put_in id rule (option_map (λ t. t.now) before.entry) (option_map (λ t. t.now) after.entry) rules.old.entries) }
+    ensures ok { OnOk result (rules.new.entries ≡ put_in id rule (option_map (λ t. t.now) before.entry) (option_map (λ t. t.now) after.entry) rules.old.entries) }
+    ensures same { OnErr result (rules.new.entries ≡ rules.old.entries) }
 {
     match before {
         Some(neighbour) => put_before(rules, id, rule, neighbour),
@@ -103,14 +105,17 @@ fn put_before<T: Drop>(
     rule: Rule<T>,
     neighbour: &Text,
 ) -> Result<(), Memory>
-    ensures { OnOk result (rules.new.entries ≡ put_before id rule neighbour.now rules.old.entries) }
+    ensures ok { OnOk result (rules.new.entries ≡ put_before id rule neighbour.now rules.old.entries) }
+    ensures same { OnErr result (rules.new.entries ≡ rules.old.entries) }
 {
     if *neighbour == id {
         return set_rule(rules, id, rule);
     }
+    rules.reserve(1)?;
     rules.shift_remove(&id);
     let at = before_id(rules, neighbour);
-    insert_new(rules, at, id, rule)
+    insert_new(rules, at, id, rule);
+    Ok(())
 }
 
 fn put_behind<T: Drop>(
@@ -119,14 +124,17 @@ fn put_behind<T: Drop>(
     rule: Rule<T>,
     neighbour: &Text,
 ) -> Result<(), Memory>
-    ensures { OnOk result (rules.new.entries ≡ put_behind id rule neighbour.now rules.old.entries) }
+    ensures ok { OnOk result (rules.new.entries ≡ put_behind id rule neighbour.now rules.old.entries) }
+    ensures same { OnErr result (rules.new.entries ≡ rules.old.entries) }
 {
     if *neighbour == id {
         return set_rule(rules, id, rule);
     }
+    rules.reserve(1)?;
     rules.shift_remove(&id);
     let at = behind_id(rules, neighbour);
-    insert_new(rules, at, id, rule)
+    insert_new(rules, at, id, rule);
+    Ok(())
 }
 
 fn put_unplaced<T: Drop>(
@@ -134,13 +142,16 @@ fn put_unplaced<T: Drop>(
     id: Text,
     rule: Rule<T>,
 ) -> Result<(), Memory>
-    ensures { OnOk result (rules.new.entries ≡ put_unplaced id rule rules.old.entries) }
+    ensures ok { OnOk result (rules.new.entries ≡ put_unplaced id rule rules.old.entries) }
+    ensures same { OnErr result (rules.new.entries ≡ rules.old.entries) }
 {
     if rules.contains_key(&id) {
         return set_rule(rules, id, rule);
     }
+    rules.reserve(1)?;
     let at = behind_master(rules);
-    insert_new(rules, at, id, rule)
+    insert_new(rules, at, id, rule);
+    Ok(())
 }
 
 /// Puts a rule in the place of the one that has its id, or last.
@@ -149,24 +160,24 @@ pub(crate) fn set_rule<T: Drop>(
     id: Text,
     rule: Rule<T>,
 ) -> Result<(), Memory>
-    ensures { OnOk result (rules.new.entries ≡ insert_entry is_id rules.old.entries id rule) }
+    ensures ok { OnOk result (rules.new.entries ≡ insert_entry is_id rules.old.entries id rule) }
+    ensures same { OnErr result (rules.new.entries ≡ rules.old.entries) }
 {
     rules.insert(id, rule)?;
     Ok(())
 }
 
-fn insert_new<T: Drop>(
-    rules: &mut IndexMap<Text, Rule<T>>,
-    at: usize,
-    id: Text,
-    rule: Rule<T>,
-) -> Result<(), Memory>
+/// Inserts a rule whose id isn't there, where there is room for it.
+fn insert_new<T: Drop>(rules: &mut IndexMap<Text, Rule<T>>, at: usize, id: Text, rule: Rule<T>)
     requires new { get (pointwise nat_eq) rules.old id ≡ None }
     requires within { at ≤ length rules.old.entries }
-    ensures { OnOk result (rules.new.entries ≡ insert rules.old.entries at (id, rule)) }
+    requires room { 0 < spare rules.old }
+    ensures { rules.new.entries ≡ insert rules.old.entries at (id, rule) }
 {
-    rules.shift_insert(at, id, rule)?;
-    Ok(())
+    match rules.shift_insert(at, id, rule) {
+        Ok(_) => {}
+        Err(_) => unreachable!(),
+    }
 }
 
 /// Where a rule stands, or the end.
@@ -210,6 +221,7 @@ pub(crate) fn take_away<T: Drop>(
 ) -> Result<(), RuleFault>
     ensures judged { Judges result (no_rule id.now rules.old.entries) }
     ensures ok { OnOk result (rules.new.entries ≡ without id.now rules.old.entries) }
+    ensures same { OnErr result (rules.new.entries ≡ rules.old.entries) }
 {
     match rules.shift_remove(id) {
         Some(_) => Ok(()),
@@ -225,6 +237,7 @@ pub(crate) fn enable<T>(
 ) -> Result<(), RuleFault>
     ensures judged { Judges result (no_rule id.now rules.old.entries) }
     ensures ok { OnOk result (rules.new.entries ≡ with_enabled on id.now rules.old.entries) }
+    ensures same { OnErr result (rules.new.entries ≡ rules.old.entries) }
 {
     match rules.get_mut(id) {
         Some(rule) => {
@@ -245,15 +258,23 @@ pub(crate) fn act<T>(
 ) -> Result<(), RuleFault>
     ensures judged { Judges result (action_fault id.now actions.now rules.old.entries) }
     ensures ok { OnOk result (rules.new.entries ≡ with_actions (items_of (Some actions.now)) id.now rules.old.entries) }
+    ensures same { OnErr result (rules.new.entries ≡ rules.old.entries) }
 {
-    match rules.get_mut(id) {
-        Some(rule) => {
-            if !are_actions(Some(actions)) {
-                return Err(RuleFault::BadAction);
-            }
-            rule.actions = items_of(alloc, Some(actions))?;
-            Ok(())
-        }
-        None => Err(RuleFault::NoRule),
+    if !rules.contains_key(id) {
+        return Err(RuleFault::NoRule);
+    }
+    if !are_actions(Some(actions)) {
+        return Err(RuleFault::BadAction);
+    }
+    let actions = items_of(alloc, Some(actions))?;
+    set_actions(rules, id, actions);
+    Ok(())
+}
+
+fn set_actions<T>(rules: &mut IndexMap<Text, Rule<T>>, id: &Text, actions: Seq<Json>)
+    ensures { rules.new.entries ≡ with_actions actions id.now rules.old.entries }
+{
+    if let Some(rule) = rules.get_mut(id) {
+        rule.actions = actions;
     }
 }

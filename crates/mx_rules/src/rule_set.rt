@@ -1,5 +1,5 @@
 //! The push rules of a user, and their changes.
-ghost use Rattle.std.specs.Prelude.{◌≡◌, OnOk, option_map};
+ghost use Rattle.std.specs.Prelude.{◌≡◌, OnOk, OnErr, option_map};
 ghost use Rattle.mx_rules.specs.Judging.{Judges};
 ghost use Rattle.mx_rules.specs.Rules.{acted, actions_fault, enabled, is_default_id, no_rule_in, put, put_fault, removed, remove_fault, rules_of};
 
@@ -13,7 +13,7 @@ use mx_json::Json;
 use std::alloc::Global;
 
 /// The push rules of a user (Client-Server API, Push rules), kind by kind, each with its id and in the order in which they
-/// are tried.
+/// are tried. A change that is refused leaves them as they were.
 #[derive(Drop)]
 pub struct RuleSet {
     pub override_rules: IndexMap<Text, Rule<Seq<Json>>>,
@@ -42,6 +42,7 @@ impl RuleSet {
     ) -> Result<(), RuleFault>
         ensures judged { Judges result (put_fault kind id.now body.now (option_map (λ t. t.now) before.entry) (option_map (λ t. t.now) after.entry) (rules_of self.old)) }
         ensures ok { OnOk result (rules_of self.new ≡ put kind id.now body.now (option_map (λ t. t.now) before.entry) (option_map (λ t. t.now) after.entry) (rules_of self.old)) }
+        ensures same { OnErr result (rules_of self.new ≡ rules_of self.old) }
     {
         if is_default_id(id) {
             return Err(RuleFault::DefaultRule);
@@ -66,6 +67,7 @@ impl RuleSet {
     pub fn remove(&mut self, kind: Kind, id: &Text) -> Result<(), RuleFault>
         ensures judged { Judges result (remove_fault kind id.now (rules_of self.old)) }
         ensures ok { OnOk result (rules_of self.new ≡ removed kind id.now (rules_of self.old)) }
+        ensures same { OnErr result (rules_of self.new ≡ rules_of self.old) }
     {
         if is_default_id(id) {
             return Err(RuleFault::DefaultRule);
@@ -83,6 +85,7 @@ impl RuleSet {
     pub fn set_enabled(&mut self, kind: Kind, id: &Text, on: bool) -> Result<(), RuleFault>
         ensures judged { Judges result (no_rule_in kind id.now (rules_of self.old)) }
         ensures ok { OnOk result (rules_of self.new ≡ enabled on kind id.now (rules_of self.old)) }
+        ensures same { OnErr result (rules_of self.new ≡ rules_of self.old) }
     {
         match kind {
             Kind::Override => enable(&mut self.override_rules, id, on),
@@ -104,6 +107,7 @@ impl RuleSet {
     ) -> Result<(), RuleFault>
         ensures judged { Judges result (actions_fault kind id.now actions.now (rules_of self.old)) }
         ensures ok { OnOk result (rules_of self.new ≡ acted actions.now kind id.now (rules_of self.old)) }
+        ensures same { OnErr result (rules_of self.new ≡ rules_of self.old) }
     {
         match kind {
             Kind::Override => act(alloc, &mut self.override_rules, id, actions),
