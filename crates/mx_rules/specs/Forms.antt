@@ -57,7 +57,7 @@ abbrev pub has_form : List ℕ → Json → Bool
 has_form kind j =
     if bytes_eq kind (codes "event_match") then has_text (codes "key") j && has_text (codes "pattern") j
     else (if bytes_eq kind (codes "event_property_is") || bytes_eq kind (codes "event_property_contains")
-        then has_text (codes "key") j && has_value (field (codes "value") j)
+    then has_text (codes "key") j && has_value (field (codes "value") j)
     else (if bytes_eq kind (codes "room_member_count") then is_bound (text_at (codes "is") j)
     else (if bytes_eq kind (codes "sender_notification_permission") then has_text (codes "key") j
     else true)))

@@ -51,8 +51,11 @@ pub(crate) const OVERRIDES: [Builtin; 11] = [
 ];
 
 /// Those of the kind `underride`.
-pub(crate) const UNDERRIDES: [Builtin; 3] =
-    [Builtin::Call, Builtin::RoomOneToOne, Builtin::Message];
+pub(crate) const UNDERRIDES: [Builtin; 3] = [
+    Builtin::Call,
+    Builtin::RoomOneToOne,
+    Builtin::Message,
+];
 
 impl Builtin {
     pub(crate) fn id(self) -> &'static str

@@ -174,10 +174,7 @@ fn insert_new<T: Drop>(rules: &mut IndexMap<Text, Rule<T>>, at: usize, id: Text,
     requires room { 0 < spare rules.old }
     ensures { rules.new.entries ≡ insert rules.old.entries at (id, rule) }
 {
-    match rules.shift_insert(at, id, rule) {
-        Ok(_) => {}
-        Err(_) => unreachable!(),
-    }
+    rules.shift_insert(at, id, rule).unwrap();
 }
 
 /// Where a rule stands, or the end.

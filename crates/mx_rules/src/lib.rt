@@ -12,7 +12,7 @@ mod rule;
 mod rule_set;
 mod writing;
 
-pub use predefined::defaults;
 pub use fault::{RuleFault, Side};
+pub use predefined::defaults;
 pub use rule::{Kind, Rule, Test};
 pub use rule_set::RuleSet;

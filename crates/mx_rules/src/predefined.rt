@@ -42,11 +42,7 @@ fn rules_by(
     Ok(rules)
 }
 
-fn default_rule(
-    alloc: Global,
-    user: &UserId,
-    builtin: Builtin,
-) -> Result<Rule<Seq<Json>>, Memory>
+fn default_rule(alloc: Global, user: &UserId, builtin: Builtin) -> Result<Rule<Seq<Json>>, Memory>
     ensures { IfOk result (λ r. r ≡ default_rule user.now builtin) }
 {
     Ok(Rule {

@@ -27,11 +27,31 @@ fn kinds_json(alloc: Global, rules: &RuleSet) -> Result<Json, Memory>
     ensures { IfOk result (λ j. j ≡ kinds_json (rules_of rules.now)) }
 {
     let mut kinds = Members::new(alloc);
-    put(alloc, &mut kinds, "content", list_json(alloc, &rules.content)?)?;
-    put(alloc, &mut kinds, "override", list_json(alloc, &rules.override_rules)?)?;
+    put(
+        alloc,
+        &mut kinds,
+        "content",
+        list_json(alloc, &rules.content)?,
+    )?;
+    put(
+        alloc,
+        &mut kinds,
+        "override",
+        list_json(alloc, &rules.override_rules)?,
+    )?;
     put(alloc, &mut kinds, "room", list_json(alloc, &rules.room)?)?;
-    put(alloc, &mut kinds, "sender", list_json(alloc, &rules.sender)?)?;
-    put(alloc, &mut kinds, "underride", list_json(alloc, &rules.underride)?)?;
+    put(
+        alloc,
+        &mut kinds,
+        "sender",
+        list_json(alloc, &rules.sender)?,
+    )?;
+    put(
+        alloc,
+        &mut kinds,
+        "underride",
+        list_json(alloc, &rules.underride)?,
+    )?;
     Ok(Json::Object(kinds))
 }
 
@@ -59,7 +79,12 @@ fn entry_json<T: Test>(alloc: Global, id: &Text, rule: &Rule<T>) -> Result<Json,
     ensures { IfOk result (λ j. j ≡ entry_json T.asks (id.now, rule.now)) }
 {
     let mut members = Members::new(alloc);
-    put(alloc, &mut members, "actions", Json::List(rule.actions.copy(alloc)?))?;
+    put(
+        alloc,
+        &mut members,
+        "actions",
+        Json::List(rule.actions.copy(alloc)?),
+    )?;
     put(alloc, &mut members, "default", Json::Bool(rule.default))?;
     put(alloc, &mut members, "enabled", Json::Bool(rule.enabled))?;
     put(alloc, &mut members, "rule_id", Json::Text(id.copy(alloc)?))?;
