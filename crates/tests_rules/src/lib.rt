@@ -1,4 +1,4 @@
-//! Tests of globs and filters, through their public items.
+//! Tests of globs, filters and push rules, through their public items.
 #![tactic(auto)]
 
 #[cfg(test)]
@@ -7,3 +7,5 @@ mod filters;
 mod globs;
 #[cfg(test)]
 mod make;
+#[cfg(test)]
+mod push_rules;

@@ -1,0 +1,18 @@
+//! The push rules of a user: how they are changed, and their JSON.
+#![tactic(auto)]
+
+mod body;
+mod builtin;
+mod conditions;
+mod edits;
+mod fault;
+mod judging;
+mod predefined;
+mod rule;
+mod rule_set;
+mod writing;
+
+pub use predefined::defaults;
+pub use fault::{RuleFault, Side};
+pub use rule::{Kind, Rule, Test};
+pub use rule_set::RuleSet;
