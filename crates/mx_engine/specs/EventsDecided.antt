@@ -42,7 +42,7 @@ decided_events k mine d = decided_plan k mine (plan_of d)
 -- ---- what is decided may be stored
 
 abbrev pub lawful_rooms : (k : ℕ) (mine : List (Stored Event)) → IsLane lawful_store k mine → IsLawful (rooms_of k mine)
-lawful_rooms k mine lane = record { mine = lane.writer; lawful = lane.lawful }
+lawful_rooms k mine lane = lane
 
 abbrev items_in : Decision Event EventFault → List Event
 items_in (Stores xs) = xs

@@ -33,10 +33,36 @@ index_sync = declared_sync TxnIndex.the_type (search (key.the_sync, id.the_sync,
 
 pub send : IsSend RoomBook.the_row
 send = view_send inside.the_row _ _ _ _ (declared_send inside.the_type (
-    search sendable depth 9, (search sendable depth 9, (search (room_send, crosses, sendable) depth 9, (index_send, (
-    search (key.the_send, sendable) depth 9, (search (auth.send, sendable) depth 9, (ledger.the_send, tt))))))))
+  search sendable depth 9,
+  (
+    search sendable depth 9,
+    (
+      search (room_send, crosses, sendable) depth 9,
+      (
+        index_send,
+        (
+          search (key.the_send, sendable) depth 9,
+          (search (auth.send, sendable) depth 9, (ledger.the_send, tt)),
+        ),
+      ),
+    ),
+  ),
+))
 
 pub sync : IsSync RoomBook.the_row
 sync = view_sync inside.the_row _ _ _ _ (declared_sync inside.the_type (
-    search sendable depth 9, (search sendable depth 9, (search (room_sync, crosses, sendable) depth 9, (index_sync, (
-    search (key.the_sync, sendable) depth 9, (search (auth.sync, sendable) depth 9, (ledger.the_sync, tt))))))))
+  search sendable depth 9,
+  (
+    search sendable depth 9,
+    (
+      search (room_sync, crosses, sendable) depth 9,
+      (
+        index_sync,
+        (
+          search (key.the_sync, sendable) depth 9,
+          (search (auth.sync, sendable) depth 9, (ledger.the_sync, tt)),
+        ),
+      ),
+    ),
+  ),
+))

@@ -121,7 +121,8 @@ fn an_event_passes_by_each_list(rt: HostRuntime) {
 }
 
 fn says(rt: &impl Abort, filter: &Filter, row: &Json) -> bool {
-    filter.limit == at(rt, row, 1).as_int().expect(rt, "a limit") as u64
+    let limit = at(rt, row, 1).as_int().expect(rt, "a number");
+    filter.limit == u64::try_from(limit).expect(rt, "a limit")
         && filter.picks(&ROOM, "example.org") == bool_in(rt, row, 2)
         && filter.selection.lazy == bool_in(rt, row, 3)
         && filter.selection.include_leave == bool_in(rt, row, 4)

@@ -1,0 +1,5 @@
+//! Tests of the engine, through its public items.
+#![tactic(auto)]
+
+#[cfg(test)]
+mod rooms;
