@@ -8,7 +8,7 @@ use mx_writers::{Folds, Made, Unmade};
 use std::alloc::Global;
 
 /// No draft is refused.
-#[derive(Clone, Copy, Debug, PartialEq, Eq)]
+#[derive(Clone, Copy)]
 pub enum Never {}
 
 /// The account data of one writer. A draft is an entry without a position, and is stored as it is.
