@@ -1,7 +1,7 @@
 pub mod Blocks
 pub mod Covering
 pub mod Histories
-mod InPlace
+pub mod InPlace
 mod Machines
 pub mod Orders
 pub mod Owns

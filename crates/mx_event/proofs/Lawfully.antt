@@ -12,6 +12,7 @@ use Rattle.mx_core.specs.Orderly.{AreApart, Rise, IsOrderly}
 use Rattle.mx_core.specs.declared.history.Stored.{Stored}
 use Rattle.mx_core.proofs.Covering.{covered_get}
 use Rattle.mx_core.proofs.Histories.{no_item}
+use Rattle.mx_core.proofs.InPlace.{covered_in_place}
 use Rattle.mx_core.proofs.Owns.{own-here, own-else}
 use Rattle.mx_window.specs.Windows.{Ascends, stand_from, between}
 use Rattle.mx_window.specs.Lasts.{keep_if}
@@ -23,7 +24,7 @@ use Rattle.mx_event.specs.Lawful.{same_room, of_room, has_target, is_lawful, are
 use Rattle.mx_event.specs.Shown.{position_of}
 use Rattle.mx_event.specs.declared.event.Event.{Event}
 use Rattle.mx_event.specs.Valid.{are_valid, IsValid, LawfulIsValid, RoomsAreValid}
-use Rattle.mx_event.proofs.Places.{find, find_append, find_stands, find_under, find_filter, same_found, front_split, ascends_join, found_in, item_placed, covered_stands}
+use Rattle.mx_event.proofs.Places.{find, find_append, find_stands, find_under, find_filter, same_found, front_split, ascends_join, found_in, item_placed}
 
 pub same_is : (r s : RoomId) → same_room r s ≡ true → r ≡ s
 same_is r s h =
@@ -212,7 +213,7 @@ module _ (h : List (Stored Event)) (orderly : IsOrderly h) (law : keeps_law lawf
   placed = AllByRecursion-weaker (IsWritten room) (λ (s : Stored Event). stand_from position_of s.first s.items ≡ true) (λ s is. is.0) h written
 
   stands : stand_from position_of 1 (covered h) ≡ true
-  stands = covered_stands position_of h placed
+  stands = covered_in_place position_of lawful_store h (λ writer before first items is. (written_by room writer (items_of before) first items is).0) law
 
   abbrev in_front : Event → Bool
   in_front e = nat_lt 0 e.id.at && nat_le e.id.at (front_of h)

@@ -28,7 +28,7 @@ use Rattle.mx_filter.specs.Passes as filters
 use Rattle.mx_filter.specs.Sieves.{sieve_of}
 use Rattle.mx_filter.specs.declared.parts.Selection.{Selection}
 use Rattle.mx_filter.proofs.Sames.{pages as pages_fit}
-use Rattle.mx_event.proofs.Places.{covered_stands}
+use Rattle.mx_core.proofs.InPlace.{covered_in_place}
 use Rattle.mx_fold.specs.Lists.{Lists, Histories, Counts, AreLawful, upto, fronts_of, events_in, lists_of, lists_at}
 use Rattle.mx_fold.specs.Servers.{Server, rest_of, story}
 
@@ -48,18 +48,11 @@ mark_upto h n =
     let accounts = covers_more n.accounts h.accounts in
     λ i. record { events = events i; receipts = receipts i; accounts = accounts i }
 
-entries_placed : (before h : List (Stored Entry)) → keeps_law (λ writer before first items. account.are_placed first items) before h ≡ true
-    → AllByRecursion (λ (s : Stored Entry). stand_from account.position_of s.first s.items ≡ true) h
-entries_placed before [] law = tt
-entries_placed before (s ∷ h) law =
-    let parts = and_parts (account.are_placed s.first s.items) (keeps_law (λ writer before first items. account.are_placed first items) (before ++ s ∷ []) h) law in
-    (parts.0, entries_placed (before ++ s ∷ []) h parts.1)
-
 pub events_stand : (h : Histories) → AreLawful h → stand_from position_of 1 (lists_of h).events ≡ true
 events_stand h is = (rooms_are_valid h.events is.orderly is.events).0
 
 pub accounts_stand : (h : Histories) → AreLawful h → stand_from account.position_of 1 (lists_of h).accounts ≡ true
-accounts_stand h is = covered_stands account.position_of h.accounts (entries_placed [] h.accounts is.accounts)
+accounts_stand h is = covered_in_place account.position_of (λ writer before first items. account.are_placed first items) h.accounts (λ writer before first items placed. placed) is.accounts
 
 module _ {V D : Type 0} (w : Server V D) (lists : Lists) (events : stand_from position_of 1 lists.events ≡ true) (user : List ℕ) where
   -- what comes in a room after a front
