@@ -1,0 +1,30 @@
+//! What a call asks.
+ghost use Rattle.std.specs.Prelude.{◌≡◌, IfOk};
+ghost use Rattle.mx_api_room.specs.Asked.{room_asked};
+
+use mx_api::Asked;
+use mx_http::Call;
+use mx_ids::Memory;
+use mx_users::Directory;
+use std::alloc::Global;
+
+/// The routes of this crate.
+#[derive(Drop)]
+pub struct RoomRoutes {}
+
+/// The routes. `Memory` where there is no room for their table.
+pub fn room_routes(_alloc: Global) -> Result<RoomRoutes, Memory> {
+    Err(Memory)
+}
+
+/// What a call asks, or its first refusal.
+pub fn ask_room(
+    _alloc: Global,
+    _routes: &RoomRoutes,
+    call: &Call,
+    directory: &Directory,
+) -> Result<Asked, Memory>
+    ensures { IfOk result (λ asked. asked ≡ room_asked directory.now call.now) }
+{
+    Err(Memory)
+}

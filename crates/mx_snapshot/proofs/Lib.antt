@@ -1,0 +1,9 @@
+mod Texts
+mod RoomKeys
+mod Empty
+mod Found
+mod Counted
+mod Lasting
+mod Grown
+mod Looked
+mod Entries

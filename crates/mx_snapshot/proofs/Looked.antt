@@ -1,0 +1,87 @@
+-- Events that the index finds.
+use Rattle.std.proofs.Common.{◌≡◌, ℕ, Bool, true, false, cond, ◌&&◌, List, [], ◌∷◌, ◌++◌, Option, Some, None, map, filter, fold, option_map, nat_le, nat_lt, unwrap_or, Ordering, Less, Equal, Greater, refl, sym, ap, ap₂, ◌∙◌}
+use Rattle.std.specs.List.{AllByRecursion}
+use Rattle.std.specs.BTreeMap.{insert_entry}
+use Rattle.std.specs.Ordering.{match_ordering}
+use Rattle.std.specs.Option.{option_to_list}
+use Rattle.mx_ids.specs.declared.room_id.RoomId.{RoomId}
+use Rattle.mx_window.specs.Lasts.{last_of, keep_if}
+use Rattle.mx_window.specs.Windows.{stand_from, between}
+use Rattle.mx_event.specs.Kinds.{has_key}
+use Rattle.mx_event.specs.Lawful.{of_room, same_room}
+use Rattle.mx_event.specs.Shown.{position_of}
+use Rattle.mx_event.specs.declared.event.Event.{Event}
+use Rattle.mx_snapshot.specs.Events.{versions, is_version, first_redaction, redacts, is_own, with_own, rooms_of, place_of}
+use Rattle.mx_snapshot.specs.Lists.{room_cmp}
+use Rattle.mx_snapshot.specs.Looks.{at_position, own_looked, with_room}
+use Rattle.mx_snapshot.proofs.Found.{Found, all_found, in_position, last_among, last_same, test_last}
+
+and_swap : (a b c : Bool) → (a && (b && c)) ≡ (b && (a && c))
+and_swap true b c = refl
+and_swap false true c = refl
+and_swap false false c = refl
+
+swapped : (r w k : Event → Bool) (es : List Event) → AllByRecursion (λ (e : Event). (w e && (r e && k e)) ≡ (r e && (w e && k e))) es
+swapped r w k [] = tt
+swapped r w k (e ∷ es) = (and_swap (w e) (r e) (k e), swapped r w k es)
+
+-- a room's last version in a window is the last in the window of the room
+pub last_version : (es : List Event) (room : RoomId) (kind key : List ℕ) (last : ℕ) (ps : List ℕ) (o : Option ℕ) → stand_from position_of 1 es ≡ true → ps ≡ map position_of (versions room kind key es)
+    → o ≡ last_of (λ p. nat_le p last) ps → in_position es o ≡ last_of (has_key kind key) (between position_of 0 last (of_room room es))
+last_version es room kind key last ps o placed is found =
+    let window = λ (e : Event). nat_lt 0 e.id.at && nat_le e.id.at last in
+    let room_is = λ (e : Event). same_room e.room room in
+    test_last position_of es (is_version room kind key) ps placed is last o found
+    ∙ last_same (λ (e : Event). window e && (room_is e && has_key kind key e)) (λ (e : Event). room_is e && (window e && has_key kind key e)) es (swapped room_is window (has_key kind key) es)
+    ∙ sym (last_among (λ (e : Event). window e && has_key kind key e) room_is es)
+    ∙ sym (last_among (has_key kind key) window (of_room room es))
+
+first_kept_in : (es xs : List Event) (p by last : ℕ) → AllByRecursion (Found position_of es) xs → Some by ≡ option_map position_of (first_redaction xs p) → nat_le by last ≡ true
+    → at_position es by ≡ keep_if (λ (e : Event). nat_le e.id.at last) (first_redaction xs p)
+first_kept_in es [] p by last found is within = absurd cc
+first_kept_in es (x ∷ xs) p by last found is within = by_test (redacts p x) is (λ s. first_kept_in es xs p by last found.1 s within) where
+  kept : (by : ℕ) → by ≡ x.id.at → nat_le by last ≡ true → at_position es by ≡ cond (nat_le x.id.at last) (Some x) None
+  kept by same within = ap (at_position es) same ∙ found.0 ∙ ap (λ b. cond b (Some x) None) (sym within ∙ ap (λ n. nat_le n last) same)
+
+  by_test : (b : Bool) → Some by ≡ option_map position_of (cond b (Some x) (first_redaction xs p))
+      → (Some by ≡ option_map position_of (first_redaction xs p) → at_position es by ≡ keep_if (λ (e : Event). nat_le e.id.at last) (first_redaction xs p)) → at_position es by ≡ keep_if (λ (e : Event). nat_le e.id.at last) (cond b (Some x) (first_redaction xs p))
+  by_test true is rest = kept by (ap (λ (o : Option ℕ). unwrap_or o 0) is) within
+  by_test false is rest = rest is
+
+pub first_kept : (es : List Event) (p by last : ℕ) → stand_from position_of 1 es ≡ true → Some by ≡ option_map position_of (first_redaction es p) → nat_le by last ≡ true
+    → at_position es by ≡ keep_if (λ (e : Event). nat_le e.id.at last) (first_redaction es p)
+first_kept es p by last placed is within = first_kept_in es es p by last (all_found position_of es placed) is within
+
+-- ---- a user's rooms
+
+RoomFound : List Event → RoomId × Event → Type 0
+RoomFound es r = at_position es r.1.id.at ≡ Some r.1
+
+own_looked_is : (es : List Event) (rs : List (RoomId × Event)) → AllByRecursion (λ (r : RoomId × Event). at_position es r.1.id.at ≡ Some r.1) rs → own_looked es (map place_of rs) ≡ rs
+own_looked_is es [] found = refl
+own_looked_is es (r ∷ rs) found = ap₂ (λ (o : Option Event) l. option_to_list (option_map (with_room r.0) o) ++ l) found.0 (own_looked_is es rs found.1)
+
+found_inserted : (es : List Event) (k : RoomId) (v : Event) (rs : List (RoomId × Event)) → Found position_of es v → AllByRecursion (λ (r : RoomId × Event). at_position es r.1.id.at ≡ Some r.1) rs
+    → AllByRecursion (λ (r : RoomId × Event). at_position es r.1.id.at ≡ Some r.1) (insert_entry room_cmp rs k v)
+found_inserted es k v [] here found = (here, tt)
+found_inserted es k v (r ∷ rs) here found = by_order (room_cmp k r.0) (found_inserted es k v rs here found.1) where
+  by_order : (o : Ordering) → AllByRecursion (λ (r : RoomId × Event). at_position es r.1.id.at ≡ Some r.1) (insert_entry room_cmp rs k v)
+      → AllByRecursion (λ (r : RoomId × Event). at_position es r.1.id.at ≡ Some r.1) (match_ordering o ((k, v) ∷ r ∷ rs) ((r.0, v) ∷ rs) (r ∷ insert_entry room_cmp rs k v))
+  by_order Less later = (here, found)
+  by_order Equal later = (here, found.1)
+  by_order Greater later = (found.0, later)
+
+found_folded : (es : List Event) (user : List ℕ) (rs : List (RoomId × Event)) (xs : List Event) → AllByRecursion (Found position_of es) xs → AllByRecursion (λ (r : RoomId × Event). at_position es r.1.id.at ≡ Some r.1) rs
+    → AllByRecursion (λ (r : RoomId × Event). at_position es r.1.id.at ≡ Some r.1) (fold (with_own user) rs xs)
+found_folded es user rs [] all found = found
+found_folded es user rs (x ∷ xs) all found = found_folded es user (with_own user rs x) xs all.1 (by_test (is_own user x)) where
+  by_test : (b : Bool) → AllByRecursion (λ (r : RoomId × Event). at_position es r.1.id.at ≡ Some r.1) (cond b (insert_entry room_cmp rs x.room x) rs)
+  by_test true = found_inserted es x.room x rs all.0 found
+  by_test false = found
+
+pub own_is : (es : List Event) (user : List ℕ) (entries : List (RoomId × ℕ)) → stand_from position_of 1 es ≡ true → entries ≡ map place_of (rooms_of user es) → own_looked es entries ≡ rooms_of user es
+own_is es user entries placed is = ap (own_looked es) is ∙ own_looked_is es (rooms_of user es) (found_folded es user [] es (all_found position_of es placed) tt)
+
+pub no_rooms : (rs : List (RoomId × Event)) → [] ≡ map place_of rs → [] ≡ rs
+no_rooms [] is = refl
+no_rooms (r ∷ rs) is = absurd cc

@@ -1,0 +1,31 @@
+use Rattle.std.proofs.Common.{◌≡◌, ℕ, List, Option, Some, None, nat_le, map, sym, ap, ◌∙◌}
+use Rattle.mx_ids.specs.declared.room_id.RoomId.{RoomId}
+use Rattle.mx_event.specs.declared.event.Event.{Event}
+use Rattle.mx_event.specs.Shown.{position_of}
+use Rattle.mx_event.specs.Lawful.{of_room, same_room}
+use Rattle.mx_event.specs.Kinds.{has_key}
+use Rattle.mx_window.specs.Windows.{between}
+use Rattle.mx_window.specs.Lasts.{keep_if, last, last_of}
+use Rattle.std.proofs.lemmas.Result.{IfOk-weaker}
+use Rattle.mx_snapshot.specs.Events.{is_member, is_version, members, versions, first_redaction, rooms_of}
+use Rattle.mx_snapshot.specs.Looks.{last_position, own_now}
+use Rattle.mx_snapshot.specs.Lists.{entries_in}
+use Rattle.mx_snapshot.proofs.Found.{test_rises, test_window, test_ending, test_top}
+use Rattle.mx_snapshot.proofs.Looked.{last_version, first_kept, own_is, no_rooms}
+use Rattle.std.specs.Option.{option_copied}
+use Rattle.mx_snapshot.proofs.events.Events.last_of.Goals as goal
+
+pub last_to-requires : goal.last_to-requires
+last_to-requires c = test_rises position_of c.self.inside.events.items (is_version c.args.room.now c.args.kind.now c.args.key.now) _ c.self.invariant.0 (c.version_positions-positions.ensures ∙ c.self.invariant.1.versions c.args.room.now c.args.kind.now c.args.key.now)
+
+pub returns-in_err-position : goal.returns-in_err-position
+returns-in_err-position c =
+    ap option_copied c.from_residual.ensures
+    ∙ last_version c.self.inside.events.items c.args.room.now c.args.kind.now c.args.key.now c.args.last c.version_positions-positions.result.now None c.self.invariant.0 (c.version_positions-positions.ensures ∙ c.self.invariant.1.versions c.args.room.now c.args.kind.now c.args.key.now) c.in_err-position.ensures
+    ∙ ap (λ (l : List Event). last_of (has_key c.args.kind.now c.args.key.now) (between position_of 0 c.args.last (of_room c.args.room.now l))) c.self.view_is
+
+pub returns : goal.returns
+returns c =
+    c.at.ensures.item
+    ∙ last_version c.self.inside.events.items c.args.room.now c.args.kind.now c.args.key.now c.args.last c.version_positions-positions.result.now (Some c.in_ok-position.position) c.self.invariant.0 (c.version_positions-positions.ensures ∙ c.self.invariant.1.versions c.args.room.now c.args.kind.now c.args.key.now) c.in_ok-position.ensures
+    ∙ ap (λ (l : List Event). last_of (has_key c.args.kind.now c.args.key.now) (between position_of 0 c.args.last (of_room c.args.room.now l))) c.self.view_is

@@ -1,0 +1,6 @@
+pub mod Lists
+pub mod Looks
+pub mod Events
+pub mod Indexed
+pub mod Receipts
+pub mod Accounts

@@ -1,0 +1,77 @@
+//! Where to find what among the entries of account data.
+
+ghost use Rattle.std.specs.Prelude.{◌≡◌, ◌++◌, ◌&&◌, [], ◌∷◌, List, ℕ, Some, None, OnOk};
+ghost use Rattle.std.specs.Str.{bytes_eq};
+ghost use Rattle.mx_ids.specs.declared.room_id.RoomId.{RoomId};
+ghost use Rattle.mx_account.specs.Entries.{same_room};
+ghost use Rattle.mx_account.specs.declared.entry.Entry.{Entry};
+ghost use Rattle.mx_snapshot.specs.Accounts.{IsIndexed};
+ghost use Rattle.mx_snapshot.specs.Lists.{key_at, kind_at, version_at, one};
+
+use crate::lists::{Keys, Kinds, add_to_key, add_to_kind, add_version};
+use mx_account::Entry;
+use mx_ids::{Memory, RoomId};
+use std::alloc::Global;
+use std::collections::BTreeMap;
+
+/// Where to find what among entries of account data. Filters aren't in it.
+#[derive(Drop)]
+pub(crate) struct AccountIndex {
+    /// The positions of each user's data, global and of all rooms.
+    pub(crate) users: Keys,
+    /// The positions of the global data of each user and type.
+    pub(crate) global: Kinds,
+    /// The positions of the data of each room, user and type.
+    pub(crate) rooms: BTreeMap<RoomId, Kinds>,
+}
+
+impl AccountIndex {
+    /// The index of no entries. Takes no memory.
+    pub(crate) fn new(alloc: Global) -> AccountIndex
+        ensures { IsIndexed result [] }
+    {
+        AccountIndex {
+            users: BTreeMap::new(alloc),
+            global: BTreeMap::new(alloc),
+            rooms: BTreeMap::new(alloc),
+        }
+    }
+
+    /// Takes in the entry after those that are indexed. The time is that of some look-ups.
+    pub(crate) fn take_in(&mut self, alloc: Global, entry: &Entry) -> Result<(), Memory>
+        ensures { (es : List Entry) → IsIndexed self.old es → OnOk result (IsIndexed self.new (es ++ entry.now ∷ [])) }
+    {
+        match entry {
+            Entry::Data {
+                user,
+                room,
+                kind,
+                at,
+                ..
+            } => {
+                self.take_data(alloc, user.as_str(), *room, kind.as_str(), *at)?;
+                Ok(())
+            }
+            Entry::Filter { .. } => Ok(()),
+        }
+    }
+
+    fn take_data(
+        &mut self,
+        alloc: Global,
+        user: &str,
+        room: Option<RoomId>,
+        kind: &str,
+        at: u64,
+    ) -> Result<(), Memory>
+        ensures users { OnOk result ((u : List ℕ) → key_at self.new.users u ≡ key_at self.old.users u ++ one (bytes_eq user.now u) at) }
+        ensures global { OnOk result ((u k : List ℕ) → kind_at self.new.global u k ≡ kind_at self.old.global u k ++ one ((bytes_eq user.now u && same_room room None) && bytes_eq kind.now k) at) }
+        ensures rooms { OnOk result ((r : RoomId) (u k : List ℕ) → version_at self.new.rooms r u k ≡ version_at self.old.rooms r u k ++ one ((bytes_eq user.now u && same_room room (Some r)) && bytes_eq kind.now k) at) }
+    {
+        add_to_key(alloc, &mut self.users, user, at)?;
+        match room {
+            Some(room) => add_version(alloc, &mut self.rooms, room, user, kind, at),
+            None => add_to_kind(alloc, &mut self.global, user, kind, at),
+        }
+    }
+}

@@ -1,0 +1,56 @@
+//! What the maps of an index have at a key.
+
+ghost use Rattle.std.specs.Prelude.{◌≡◌};
+ghost use Rattle.mx_snapshot.specs.Lists.{room_at, key_at, kind_at, version_at};
+
+use crate::lists::{Keys, Kinds};
+use mx_ids::RoomId;
+use std::collections::BTreeMap;
+
+/// The positions of a room.
+pub(crate) fn room_positions<'a>(
+    rooms: &'a BTreeMap<RoomId, Vec<u64>>,
+    room: &RoomId,
+) -> &'a [u64]
+    ensures { result.now ≡ room_at rooms.now room.now }
+{
+    match rooms.get(room) {
+        Some(list) => list.as_slice(),
+        None => &[],
+    }
+}
+
+/// The positions of a key.
+pub(crate) fn key_positions<'a>(keys: &'a Keys, key: &str) -> &'a [u64]
+    ensures { result.now ≡ key_at keys.now key.now }
+{
+    match keys.get(key) {
+        Some(list) => list.as_slice(),
+        None => &[],
+    }
+}
+
+/// The positions of a type and a key.
+pub(crate) fn kind_positions<'a>(kinds: &'a Kinds, kind: &str, key: &str) -> &'a [u64]
+    ensures { result.now ≡ kind_at kinds.now kind.now key.now }
+{
+    match kinds.get(kind) {
+        Some(keys) => key_positions(keys, key),
+        None => &[],
+    }
+}
+
+/// The positions of a room, a type and a key.
+pub(crate) fn version_positions<'a>(
+    rooms: &'a BTreeMap<RoomId, Kinds>,
+    room: &RoomId,
+    kind: &str,
+    key: &str,
+) -> &'a [u64]
+    ensures { result.now ≡ version_at rooms.now room.now kind.now key.now }
+{
+    match rooms.get(room) {
+        Some(kinds) => kind_positions(kinds, kind, key),
+        None => &[],
+    }
+}

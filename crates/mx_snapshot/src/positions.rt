@@ -1,0 +1,64 @@
+//! Positions in rising order.
+
+ghost use Rattle.std.specs.Prelude.{◌≡◌, ◌≤◌, ◌&&◌, ℕ, length, take, drop, filter, nat_le, nat_lt};
+ghost use Rattle.std.specs.List.Sorted.{IsNonDecreasingBy};
+ghost use Rattle.mx_snapshot.specs.Lists.{always, itself};
+ghost use Rattle.mx_window.specs.Lasts.{last, last_of};
+ghost use Rattle.mx_snapshot.specs.Looks.{last_position};
+
+/// How many of some rising positions are at most a position. Logarithmic in their number.
+pub(crate) fn count_to(positions: &[u64], last: u64) -> usize
+    requires { IsNonDecreasingBy itself positions.now }
+    ensures bound { result ≤ length positions.now }
+    ensures front { take result positions.now ≡ filter (λ p. nat_le p last) positions.now }
+    ensures back { drop result positions.now ≡ filter (λ p. nat_lt last p) positions.now }
+{
+    positions.partition_point(|position| *position <= last)
+}
+
+/// Those of some rising positions that lie after `low` and up to `high`. Logarithmic in their number.
+pub(crate) fn within(positions: &[u64], low: u64, high: u64) -> &[u64]
+    requires { IsNonDecreasingBy itself positions.now }
+    ensures { result.now ≡ filter (λ p. nat_le p high) (filter (λ p. nat_lt low p) positions.now) }
+{
+    let from = count_to(positions, low);
+    let rest = &positions[from..];
+    let count = count_to(rest, high);
+    &rest[..count]
+}
+
+/// The last of some rising positions that is at most a position. Logarithmic in their number.
+pub(crate) fn last_to(positions: &[u64], last: u64) -> Option<u64>
+    requires { IsNonDecreasingBy itself positions.now }
+    ensures { result ≡ last_of (λ p. nat_le p last) positions.now }
+{
+    let count = count_to(positions, last);
+    if count == 0 {
+        None
+    } else {
+        Some(positions[count - 1])
+    }
+}
+
+/// The last of some rising positions up to `high`, at most `most` of them. Logarithmic in their number.
+pub(crate) fn ending(positions: &[u64], high: u64, most: u64) -> &[u64]
+    requires { IsNonDecreasingBy itself positions.now }
+    ensures { result.now ≡ last most (filter (λ p. nat_le p high) positions.now) }
+{
+    let count = count_to(positions, high);
+    let front = &positions[..count];
+    let from = front.len().saturating_sub(most as usize);
+    &front[from..]
+}
+
+/// The last of some positions, or 0 where there are none.
+pub(crate) fn last_one(positions: &[u64]) -> u64
+    ensures { result ≡ last_position itself always positions.now }
+{
+    let count = positions.len();
+    if count == 0 {
+        0
+    } else {
+        positions[count - 1]
+    }
+}

@@ -1,0 +1,156 @@
+//! The receipts of a stream up to its front.
+
+ghost use Rattle.std.specs.Prelude.{◌≡◌, ◌≤◌, ◌<◌, ◌+◌, ◌++◌, [], ◌∷◌, List, true, length, take, IfOk, OnOk};
+ghost use Rattle.std.specs.Option.{option_copied};
+ghost use Rattle.mx_core.specs.History.{Begins};
+ghost use Rattle.mx_window.specs.Windows.{between};
+ghost use Rattle.mx_event.specs.Lawful.{same_room};
+ghost use Rattle.mx_receipt.specs.Receipts.{AreInPlace, position_of};
+ghost use Rattle.mx_snapshot.specs.Looks.{all_now, at_position, last_position};
+ghost use Rattle.mx_receipt.specs.declared.receipt.Receipt.{Receipt};
+ghost use Rattle.mx_snapshot.specs.Receipts.{HasRooms, of_room};
+
+use crate::gather::gather;
+use crate::lists::add_to_room;
+use crate::looks::room_positions;
+use crate::positions::{last_one, within};
+use mx_ids::{Memory, RoomId};
+use mx_lanes::Parts;
+use mx_receipt::Receipt;
+use std::alloc::Global;
+use std::collections::BTreeMap;
+use std::marker::Model;
+
+/// The receipts of a stream up to its front, with an index beside them. Contracts see it as the list of its receipts.
+#[derive(Drop)]
+pub struct Receipts {
+    receipts: Parts<Receipt>,
+    /// The positions of each room's receipts.
+    rooms: BTreeMap<RoomId, Vec<u64>>,
+}
+
+impl Model for Receipts {
+    ghost use Rattle.std.specs.Prelude.{List};
+    ghost use Rattle.std.specs.Coded.{coded_list};
+    ghost use Rattle.mx_receipt.specs.Receipts.{AreInPlace};
+    ghost use Rattle.mx_receipt.specs.contracts.receipt.Receipt.{the_row as receipt_row};
+    ghost use Rattle.mx_receipt.specs.declared.receipt.Receipt.{Receipt};
+    ghost use Rattle.mx_snapshot.specs.Receipts.{HasRooms};
+
+    ghost Value = { List Receipt };
+
+    ghost coded = { coded_list receipt_row.coded };
+
+    ghost view = { λ s. s.receipts.items };
+
+    ghost invariant = { λ s. AreInPlace s.receipts.items × HasRooms s.rooms s.receipts.items };
+}
+
+impl Receipts {
+    /// No receipts. Takes no memory.
+    pub(crate) fn new(alloc: Global) -> Receipts
+        ensures { result ≡ [] }
+    {
+        Receipts {
+            receipts: Parts::none(alloc),
+            rooms: BTreeMap::new(alloc),
+        }
+    }
+
+    /// Goes on to a later front: only the receipts after the old one are looked at.
+    pub(crate) fn grown(
+        self,
+        alloc: Global,
+        receipts: Parts<Receipt>,
+    ) -> Result<Receipts, Memory>
+        requires begins { Begins self receipts.items }
+        requires placed { AreInPlace receipts.items }
+        ensures { IfOk result (λ s. s ≡ receipts.items) }
+    {
+        let Receipts {
+            receipts: before,
+            mut rooms,
+        } = self;
+        index_after(alloc, &mut rooms, &receipts, before.front())?;
+        Ok(Receipts { receipts, rooms })
+    }
+
+    /// The front: the number of receipts. Takes no memory.
+    pub fn front(&self) -> u64
+        ensures { result ≡ length self.now }
+    {
+        self.receipts.front()
+    }
+
+    /// The receipt at a position. Takes no memory.
+    pub fn at(&self, position: u64) -> Option<&Receipt>
+        ensures { option_copied result ≡ at_position self.now position }
+    {
+        self.receipts.at(position)
+    }
+
+    /// The receipts of a room at the positions after `low` and up to `high`, in their order. Takes the time of two searches
+    /// among the room's receipts, and of those that it gives.
+    pub fn of_room(
+        &self,
+        alloc: Global,
+        room: &RoomId,
+        low: u64,
+        high: u64,
+    ) -> Result<Vec<&Receipt>, Memory>
+        ensures { IfOk result (λ made. all_now made.items ≡ between position_of low high (of_room room.now self.now)) }
+    {
+        let positions = room_positions(&self.rooms, room);
+        gather(alloc, &self.receipts, within(positions, low, high))
+    }
+
+    /// The position of a room's last receipt, or 0 where it has none. Takes the time of a look-up, and no memory.
+    pub fn last_in(&self, room: &RoomId) -> u64
+        ensures { result ≡ last_position position_of (λ receipt. same_room receipt.room room.now) self.now }
+    {
+        last_one(room_positions(&self.rooms, room))
+    }
+}
+
+fn index_after(
+    alloc: Global,
+    rooms: &mut BTreeMap<RoomId, Vec<u64>>,
+    receipts: &Parts<Receipt>,
+    from: u64,
+) -> Result<(), Memory>
+    requires within { from ≤ length receipts.now.items }
+    requires indexed { HasRooms rooms.old (take from receipts.now.items) }
+    ensures { OnOk result (HasRooms rooms.new receipts.now.items) }
+{
+    'receipts: for position in from..receipts.front() {
+        take_next(alloc, rooms, receipts, position)?;
+    }
+    Ok(())
+}
+
+fn take_next(
+    alloc: Global,
+    rooms: &mut BTreeMap<RoomId, Vec<u64>>,
+    receipts: &Parts<Receipt>,
+    passed: u64,
+) -> Result<(), Memory>
+    requires within { passed < length receipts.now.items }
+    requires indexed { HasRooms rooms.old (take passed receipts.now.items) }
+    ensures { OnOk result (HasRooms rooms.new (take (passed + 1) receipts.now.items)) }
+{
+    let _front = receipts.front();
+    match receipts.at(passed + 1) {
+        Some(receipt) => take_in(alloc, rooms, receipt),
+        None => Ok(()),
+    }
+}
+
+fn take_in(
+    alloc: Global,
+    rooms: &mut BTreeMap<RoomId, Vec<u64>>,
+    receipt: &Receipt,
+) -> Result<(), Memory>
+    ensures { (rs : List Receipt) → HasRooms rooms.old rs → OnOk result (HasRooms rooms.new (rs ++ receipt.now ∷ [])) }
+{
+    add_to_room(alloc, rooms, receipt.room, receipt.at)
+}
