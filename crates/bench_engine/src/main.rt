@@ -1,0 +1,29 @@
+//! Measures what a write into a room costs an engine: with the words `EVENTS SENDS` it prints the milliseconds that so
+//! many sends take into a room that has so many events, and with no words nothing. `bench/sends` runs it and prints ratios.
+#![tactic(auto)]
+
+mod room;
+mod words;
+
+use crate::room::measure;
+use crate::words::{Wanted, wanted};
+use mx_outside::{Clock, HostClock, Sink, StdOut};
+use std::process::ExitCode;
+
+fn main(rt: HostRuntime) -> ExitCode {
+    let Some(Wanted { events, sends }) = wanted(&rt) else {
+        return ExitCode::from(0);
+    };
+    let mut clock = HostClock::new(rt);
+    let mut output = StdOut::new(rt.stdout());
+    let Ok(took) = measure(&rt, rt.alloc(), &mut clock, events, sends) else {
+        return ExitCode::from(1);
+    };
+    match format!(in rt.alloc(); "{took}\n") {
+        Ok(line) => {
+            let _ = output.put(line.as_bytes());
+            ExitCode::from(0)
+        }
+        Err(_) => ExitCode::from(1),
+    }
+}

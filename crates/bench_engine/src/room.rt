@@ -1,0 +1,138 @@
+//! A room that messages are sent to.
+
+ghost use Rattle.std.specs.Prelude.{◌≡◌};
+ghost use Rattle.mx_engine.specs.Shown.{Ties};
+
+use mx_create::wrong_field;
+use mx_engine::{Ask, Engine, EnginePass, Said, Setup, Who, engine};
+use mx_event::Txn;
+use mx_ids::{Copied, Memory, Seq, Text, write_room_id};
+use mx_json::{Json, Members, read};
+use mx_outside::Clock;
+use mx_users::{Directory, read_users};
+use mx_writers::Open;
+use std::alloc::Global;
+use std::sync::Wait;
+
+const USERS: &str = "server example.org\nalice A1 tok_a1\n";
+
+/// The milliseconds that so many sends take into a room that has some events beforehand.
+pub fn measure<R: Wait, C: Clock>(
+    rt: &R,
+    alloc: Global,
+    clock: &mut C,
+    events: u32,
+    sends: u32,
+) -> Result<u64, Memory> {
+    let directory = read_users(alloc, USERS.as_bytes()).map_err(|_| Memory)?;
+    let who = who(alloc, &directory)?;
+    let setup = Setup {
+        users: directory,
+        workers: 1,
+        stop: 281_474_976_694_272,
+    };
+    let (engine, mut pass) = engine(alloc, setup, Open)?;
+    let room = create(rt, alloc, &engine, &mut pass, &who)?;
+    send_all(rt, alloc, &engine, &mut pass, &who, &room, 0, events)?;
+    let start = clock.now();
+    send_all(rt, alloc, &engine, &mut pass, &who, &room, events, sends)?;
+    Ok(clock.now().saturating_sub(start))
+}
+
+fn who(alloc: Global, directory: &Directory) -> Result<Who, Memory> {
+    match directory.users().users.as_slice() {
+        [user, ..] => Ok(Who {
+            user: user.copy(alloc)?,
+            device: 0,
+        }),
+        [] => Err(Memory),
+    }
+}
+
+fn text(alloc: Global, s: &str) -> Result<Text, Memory> {
+    Ok(Text::from_string(String::from_str(alloc, s)?))
+}
+
+/// A room of the user, by its id.
+fn create<R: Wait>(
+    rt: &R,
+    alloc: Global,
+    engine: &Engine<Open>,
+    pass: &mut EnginePass,
+    who: &Who,
+) -> Result<Text, Memory>
+    requires ties { Ties engine.now pass.old }
+    ensures ties { Ties engine.now pass.new }
+{
+    let body = Json::Object(Members::new(alloc));
+    if wrong_field(&body).is_some() {
+        return Err(Memory);
+    }
+    let answered = engine.answer(rt, alloc, pass, who, Ask::CreateRoom { body }, 1000);
+    match answered.said {
+        Said::Room(room) => {
+            let mut id = Text::new(alloc);
+            write_room_id(alloc, &room, "example.org", &mut id)?;
+            Ok(id)
+        }
+        _ => Err(Memory),
+    }
+}
+
+/// Sends so many messages, each in a transaction of its own, which are numbered from `first` on.
+fn send_all<R: Wait>(
+    rt: &R,
+    alloc: Global,
+    engine: &Engine<Open>,
+    pass: &mut EnginePass,
+    who: &Who,
+    room: &Text,
+    first: u32,
+    count: u32,
+) -> Result<(), Memory>
+    requires ties { Ties engine.now pass.old }
+    ensures ties { Ties engine.now pass.new }
+{
+    'sends: for number in 0..count {
+        send(rt, alloc, engine, pass, who, room, u64::from(first) + u64::from(number))?;
+    }
+    Ok(())
+}
+
+/// Sends a message in a transaction of this number. `Memory` where it isn't stored.
+fn send<R: Wait>(
+    rt: &R,
+    alloc: Global,
+    engine: &Engine<Open>,
+    pass: &mut EnginePass,
+    who: &Who,
+    room: &Text,
+    number: u64,
+) -> Result<(), Memory>
+    requires ties { Ties engine.now pass.old }
+    ensures ties { Ties engine.now pass.new }
+{
+    let ask = Ask::Send {
+        room: room.copy(alloc)?,
+        kind: text(alloc, "m.room.message")?,
+        txn: txn(alloc, room, number)?,
+        content: read(alloc, b"{\"body\":\"hi\",\"msgtype\":\"m.text\"}").map_err(|_| Memory)?,
+    };
+    match engine.answer(rt, alloc, pass, who, ask, 1000).said {
+        Said::Sent(_) => Ok(()),
+        _ => Err(Memory),
+    }
+}
+
+fn txn(alloc: Global, room: &Text, number: u64) -> Result<Txn, Memory> {
+    let mut path = Seq::new(alloc);
+    path.push(room.copy(alloc)?)?;
+    path.push(text(alloc, "send")?)?;
+    path.push(text(alloc, "m.room.message")?)?;
+    let id = format!(in alloc; "t{number}")?;
+    Ok(Txn {
+        device: 0,
+        id: Text::from_string(id),
+        path,
+    })
+}
