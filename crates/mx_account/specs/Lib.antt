@@ -1,3 +1,4 @@
 pub mod Data
 pub mod Entries
+pub mod Tags
 pub mod Values

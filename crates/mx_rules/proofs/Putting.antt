@@ -1,5 +1,5 @@
 -- A new key among entries.
-use Rattle.std.proofs.Common.{ℕ, ◌≡◌, ◌∷◌, ◌++◌, [], List, Option, Some, None, length, slice_get, refl, sym, ap, ap₂, ◌∙◌, suc, zero}
+use Rattle.std.proofs.Common.{ℕ, ◌≡◌, ◌∷◌, ◌++◌, [], List, Option, Some, length, slice_get, refl, ap, ap₂}
 use Rattle.std.specs.List.{insert, remove}
 use Rattle.std.specs.Option.{option_map_or}
 use Rattle.indexmap.specs.IndexMap.{move_index}

@@ -2,7 +2,6 @@
 use Rattle.std.specs.Prelude.{◌≡◌, Option, Some, None, Result, Ok, Err, ⊤}
 use Rattle.mx_rules.specs.declared.fault.RuleFault.{RuleFault}
 use Rattle.mx_rules.specs.declared.fault.RuleFault.TheVariants as faults
-use Rattle.mx_rules.specs.declared.fault.Side.{Side}
 
 abbrev pub JudgesFault : RuleFault → Option RuleFault → Type 0
 JudgesFault faults.DefaultRule fault = fault ≡ Some faults.DefaultRule

@@ -4,5 +4,6 @@ pub mod Defaults
 pub mod Edits
 pub mod Forms
 pub mod Judging
+pub mod Reading
 pub mod Rules
 pub mod Writing

@@ -1,5 +1,5 @@
 -- The rules of a user, kind by kind, and their changes.
-use Rattle.std.specs.Prelude.{ℕ, ◌==◌, Bool, true, false, not, List, [], ◌∷◌, Option, Some, None, if◌then◌else◌, codes}
+use Rattle.std.specs.Prelude.{ℕ, ◌==◌, Bool, false, not, List, [], ◌∷◌, Option, Some, if◌then◌else◌, codes}
 use Rattle.mx_json.specs.Fields.{field}
 use Rattle.mx_json.specs.declared.value.Json.{Json}
 use Rattle.mx_rules.specs.Bodies.{items_of, text_or_none}
@@ -9,7 +9,6 @@ use Rattle.mx_rules.specs.declared.fault.RuleFault.{RuleFault}
 use Rattle.mx_rules.specs.declared.fault.RuleFault.TheVariants as faults
 use Rattle.mx_rules.specs.declared.rule.Kind.{Kind}
 use Rattle.mx_rules.specs.declared.rule.Kind.TheVariants as kinds
-use Rattle.mx_rules.specs.declared.rule.Rule.{Rule}
 use Rattle.mx_rules.specs.declared.rule_set.RuleSet.{RuleSet}
 
 -- what rules of the kinds ask: conditions, a pattern, or nothing

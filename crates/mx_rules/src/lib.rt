@@ -1,4 +1,4 @@
-//! The push rules of a user: how they are changed, and their JSON.
+//! The push rules of a user: how they are changed, and their JSON, written and read.
 #![tactic(auto)]
 
 mod body;
@@ -8,6 +8,7 @@ mod edits;
 mod fault;
 mod judging;
 mod predefined;
+mod reading;
 mod rule;
 mod rule_set;
 mod writing;

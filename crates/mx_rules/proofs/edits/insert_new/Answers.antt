@@ -1,6 +1,6 @@
-use Rattle.std.proofs.Common.{rules, ◌≡◌, ap, ap₂, sym, ◌∙◌, ℕ, List, ◌++◌, ◌∷◌, [], length, nat_eq}
+use Rattle.std.proofs.Common.{◌≡◌, ap₂, ◌∙◌, length, nat_eq}
 use Rattle.std.specs.Cmp.Lexicographic.{pointwise}
-use Rattle.indexmap.specs.IndexMap.{move_index, insert_entry, insert_index}
+use Rattle.indexmap.specs.IndexMap.{move_index, insert_index}
 use Rattle.indexmap.proofs.CallerLemmas.{insert_entry-new}
 use Rattle.indexmap.proofs.MapLemmas.{or_len-absent, absent_from_lookup}
 use Rattle.mx_rules.proofs.Putting.{last_moved}
