@@ -1,5 +1,5 @@
 -- The indices of receipts and of account data, with one item more.
-use Rattle.std.proofs.Common.{◌≡◌, ℕ, Bool, true, false, cond, ◌&&◌, List, [], ◌∷◌, ◌++◌, Option, Some, None, map, filter, sym, subst, ap, ap₂, ◌∙◌}
+use Rattle.std.proofs.Common.{◌≡◌, ℕ, ◌&&◌, List, [], ◌∷◌, ◌++◌, Option, Some, None, sym, subst, ap, ap₂, ◌∙◌}
 use Rattle.std.specs.Str.{bytes_eq}
 use Rattle.mx_ids.specs.declared.room_id.RoomId.{RoomId}
 use Rattle.mx_event.specs.Lawful as rooms
@@ -9,7 +9,7 @@ use Rattle.mx_account.specs.Entries.{is_data_of, position_of, same_room}
 use Rattle.mx_account.specs.declared.entry.Entry.{Entry}
 use Rattle.mx_account.specs.declared.entry.Entry.TheVariants as entry
 use Rattle.mx_json.specs.declared.value.Json.{Json}
-use Rattle.mx_snapshot.specs.Accounts.{IsIndexed, is_users, of_user}
+use Rattle.mx_snapshot.specs.Accounts.{IsIndexed, is_users}
 use Rattle.mx_snapshot.specs.Lists.{Rooms, key_at, kind_at, one, room_at, version_at}
 use Rattle.mx_snapshot.specs.Receipts.{HasRooms}
 use Rattle.mx_snapshot.specs.declared.account_index.AccountIndex.{AccountIndex}
@@ -39,7 +39,7 @@ pub next_data : (old new : AccountIndex) (es : List Entry) (e : Entry) (user kin
     → IsIndexed old es → IsIndexed new (es ++ e ∷ [])
 next_data old new es e user kind name type_ room content at is same alike users global rooms was =
     subst (λ (d : Entry). IsIndexed new (es ++ d ∷ [])) (sym is) (next_entry old new es (entry.Data user room kind content at)
-      (λ u. users u ∙ ap (λ n. key_at old.users u ++ one (bytes_eq n u) at) same)
-      (λ u k. global u k ∙ ap₂ (λ n t. kind_at old.global u k ++ one ((bytes_eq n u && same_room room None) && bytes_eq t k) at) same alike)
-      (λ r u k. rooms r u k ∙ ap₂ (λ n t. version_at old.rooms r u k ++ one ((bytes_eq n u && same_room room (Some r)) && bytes_eq t k) at) same alike)
-      was)
+    (λ u. users u ∙ ap (λ n. key_at old.users u ++ one (bytes_eq n u) at) same)
+    (λ u k. global u k ∙ ap₂ (λ n t. kind_at old.global u k ++ one ((bytes_eq n u && same_room room None) && bytes_eq t k) at) same alike)
+    (λ r u k. rooms r u k ∙ ap₂ (λ n t. version_at old.rooms r u k ++ one ((bytes_eq n u && same_room room (Some r)) && bytes_eq t k) at) same alike)
+    was)

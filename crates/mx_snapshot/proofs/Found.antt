@@ -1,5 +1,5 @@
 -- Items that stand at their positions are found by them, and so are those that pass a test.
-use Rattle.std.proofs.Common.{◌≡◌, ℕ, zero, suc, ◌+◌, ◌≤◌, ◌<◌, Bool, true, false, cond, ◌&&◌, List, [], ◌∷◌, ◌++◌, length, Option, Some, None, map, filter, option_map, nat_le, nat_lt, nat_eq, slice_get, slice_index_or, take, drop, ◌-◌, refl, sym, ap, ap₂, subst, ◌∙◌, arith}
+use Rattle.std.proofs.Common.{◌≡◌, ℕ, zero, suc, ◌+◌, ◌<◌, Bool, true, false, cond, ◌&&◌, List, [], ◌∷◌, ◌++◌, length, Option, Some, None, map, filter, option_map, nat_le, nat_lt, nat_eq, slice_get, slice_index_or, take, drop, ◌-◌, refl, sym, ap, ap₂, subst, ◌∙◌, arith}
 use Rattle.std.proofs.lemmas.Bool.{and_parts, eqb-true, lt-ltb}
 use Rattle.std.specs.List.{AllByRecursion}
 use Rattle.std.specs.List.Sorted.{IsNonDecreasingBy}
@@ -35,7 +35,6 @@ module _ {I : Type 0} where
   take_next es p e is =
       let one : suc p ≡ p + 1 = omega arith in
       next_take es p e (ap (at_position es) one ∙ is) ∙ ap (λ n. take n es) one
-
 
   -- a last item among those of a first test is the last that passes both
   pub last_among : (p q : I → Bool) (xs : List I) → last_of p (filter q xs) ≡ last_of (λ e. q e && p e) xs
@@ -116,7 +115,7 @@ module _ {I : Type 0} (at : I → ℕ) where
       ∙ ap (λ l. looked es (filter (λ p. nat_le p high) l)) (filter_positions (λ p. nat_lt low p) xs)
       ∙ ap (looked es) (filter_positions (λ p. nat_le p high) (filter (λ e. nat_lt low (at e)) xs))
       ∙ looked_is es (filter (λ e. nat_le (at e) high) (filter (λ e. nat_lt low (at e)) xs))
-          (AllByRecursion-filter (Found es) (λ e. nat_le (at e) high) (filter (λ e. nat_lt low (at e)) xs) (AllByRecursion-filter (Found es) (λ e. nat_lt low (at e)) xs found))
+      (AllByRecursion-filter (Found es) (λ e. nat_le (at e) high) (filter (λ e. nat_lt low (at e)) xs) (AllByRecursion-filter (Found es) (λ e. nat_lt low (at e)) xs found))
       ∙ twice (λ e. nat_le (at e) high) (λ e. nat_lt low (at e)) xs
 
   -- ---- the last version up to a position
@@ -155,7 +154,6 @@ module _ {I : Type 0} (at : I → ℕ) where
       omega (arith, rest)
   rising low (x ∷ xs) rises (suc i) zero d order within = absurd (omega (arith, order))
   rising low (x ∷ xs) rises (suc i) (suc j) d order within = rising (at x) xs rises.1 i j d (omega (arith, order)) (omega (arith, within))
-
 
   pub placed_ascends : (es : List I) → stand_from at 1 es ≡ true → Ascends at 0 es
   placed_ascends es placed = Ascends-stand_from at 0 1 es (omega arith) placed
@@ -221,7 +219,7 @@ module _ {I : Type 0} (at : I → ℕ) where
         ∙ last_same (λ e. nat_le (at e) last) (λ e. nat_lt 0 (at e) && nat_le (at e) last) xs (all_positive 0 last xs rises)
         ∙ last_among (λ e. nat_lt 0 (at e) && nat_le (at e) last) test es
         ∙ last_same (λ e. test e && (nat_lt 0 (at e) && nat_le (at e) last)) (λ e. (nat_lt 0 (at e) && nat_le (at e) last) && test e) es
-            (all_swapped es)
+        (all_swapped es)
       where
         and_swap : (a b : Bool) → (a && b) ≡ (b && a)
         and_swap true true = refl
@@ -237,17 +235,17 @@ module _ {I : Type 0} (at : I → ℕ) where
     test_top n found =
         found ∙ ap (last_position itself always) is ∙ ap (last_at itself 0) (last_mapped always (filter test es)) ∙ mapped (last_of (λ e. true) (filter test es))
         ∙ ap (last_at at 0) (last_among (λ e. true) test es ∙ last_same (λ e. test e && true) test es (all_plain es)) where
-      mapped : (o : Option I) → last_at itself 0 (option_map at o) ≡ last_at at 0 o
-      mapped None = refl
-      mapped (Some x) = refl
+          mapped : (o : Option I) → last_at itself 0 (option_map at o) ≡ last_at at 0 o
+          mapped None = refl
+          mapped (Some x) = refl
 
-      plain : (b : Bool) → (b && true) ≡ b
-      plain true = refl
-      plain false = refl
+          plain : (b : Bool) → (b && true) ≡ b
+          plain true = refl
+          plain false = refl
 
-      all_plain : (es : List I) → AllByRecursion (λ (e : I). (test e && true) ≡ test e) es
-      all_plain [] = tt
-      all_plain (e ∷ es) = (plain (test e), all_plain es)
+          all_plain : (es : List I) → AllByRecursion (λ (e : I). (test e && true) ≡ test e) es
+          all_plain [] = tt
+          all_plain (e ∷ es) = (plain (test e), all_plain es)
 
     pub last_between : (last : ℕ) (o : Option ℕ) → o ≡ last_of (λ p. nat_le p last) ps → in_position es o ≡ last_of test (between at 0 last es)
     last_between last o found = test_last last o found ∙ sym (last_among test (λ e. nat_lt 0 (at e) && nat_le (at e) last) es)

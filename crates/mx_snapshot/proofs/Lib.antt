@@ -7,3 +7,5 @@ mod Lasting
 mod Grown
 mod Looked
 mod Entries
+mod Firsts
+mod Crosses

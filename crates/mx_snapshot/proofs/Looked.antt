@@ -1,5 +1,5 @@
 -- Events that the index finds.
-use Rattle.std.proofs.Common.{◌≡◌, ℕ, Bool, true, false, cond, ◌&&◌, List, [], ◌∷◌, ◌++◌, Option, Some, None, map, filter, fold, option_map, nat_le, nat_lt, unwrap_or, Ordering, Less, Equal, Greater, refl, sym, ap, ap₂, ◌∙◌}
+use Rattle.std.proofs.Common.{◌≡◌, ℕ, Bool, true, false, cond, ◌&&◌, List, [], ◌∷◌, ◌++◌, Option, Some, None, map, fold, option_map, nat_le, nat_lt, unwrap_or, Ordering, Less, Equal, Greater, refl, sym, ap, ap₂, ◌∙◌}
 use Rattle.std.specs.List.{AllByRecursion}
 use Rattle.std.specs.BTreeMap.{insert_entry}
 use Rattle.std.specs.Ordering.{match_ordering}

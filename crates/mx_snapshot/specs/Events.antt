@@ -24,6 +24,13 @@ is_member room e = same_room e.room room && (is_of member_type e && is_some e.st
 abbrev pub members : RoomId → List Event → List Event
 members room es = filter (is_member room) es
 
+-- a state event of a room, of any type and key
+abbrev pub is_state : RoomId → Event → Bool
+is_state room e = same_room e.room room && is_some e.state_key
+
+abbrev pub states : RoomId → List Event → List Event
+states room es = filter (is_state room) es
+
 -- the event is a redaction of the earlier one at this position
 abbrev pub redacts : ℕ → Event → Bool
 redacts p e = names e p && nat_lt p e.id.at

@@ -4,3 +4,4 @@ pub mod Events
 pub mod Indexed
 pub mod Receipts
 pub mod Accounts
+pub mod FirstRedactions

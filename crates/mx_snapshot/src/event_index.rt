@@ -29,6 +29,8 @@ pub(crate) struct EventIndex {
     pub(crate) rooms: BTreeMap<RoomId, Vec<u64>>,
     /// The positions of each room's member events.
     pub(crate) members: BTreeMap<RoomId, Vec<u64>>,
+    /// The positions of each room's state events.
+    pub(crate) states: BTreeMap<RoomId, Vec<u64>>,
     /// The positions of the state events of each room, type and key.
     pub(crate) versions: BTreeMap<RoomId, Kinds>,
     /// For each user the rooms in which it has a member event, each with the position of the last one.
@@ -45,6 +47,7 @@ impl EventIndex {
         EventIndex {
             rooms: BTreeMap::new(alloc),
             members: BTreeMap::new(alloc),
+            states: BTreeMap::new(alloc),
             versions: BTreeMap::new(alloc),
             own: BTreeMap::new(alloc),
             firsts: BTreeMap::new(alloc),
@@ -57,6 +60,7 @@ impl EventIndex {
     {
         add_to_room(alloc, &mut self.rooms, event.room, event.id.at)?;
         note_member(alloc, &mut self.members, event)?;
+        note_state(alloc, &mut self.states, event)?;
         note_version(alloc, &mut self.versions, event)?;
         note_own(alloc, &mut self.own, event)?;
         note_first(&mut self.firsts, event)?;
@@ -73,6 +77,19 @@ fn note_member(
 {
     match member_key(event) {
         Some(_) => add_to_room(alloc, members, event.room, event.id.at),
+        None => Ok(()),
+    }
+}
+
+fn note_state(
+    alloc: Global,
+    states: &mut BTreeMap<RoomId, Vec<u64>>,
+    event: &Event,
+) -> Result<(), Memory>
+    ensures { OnOk result ((r : RoomId) → lists.room_at states.new r ≡ lists.room_at states.old r ++ lists.one (looked.is_state r event.now) event.now.id.at) }
+{
+    match &event.state_key {
+        Some(_) => add_to_room(alloc, states, event.room, event.id.at),
         None => Ok(()),
     }
 }

@@ -9,7 +9,7 @@ ghost use Rattle.mx_event.specs.Kinds.{has_key};
 ghost use Rattle.mx_event.specs.Lawful.{of_room, same_room};
 ghost use Rattle.mx_event.specs.Shown.{position_of};
 ghost use Rattle.mx_snapshot.specs.Indexed.{IsIndexed};
-ghost use Rattle.mx_snapshot.specs.Events.{first_redaction, is_member, members, rooms_of, versions};
+ghost use Rattle.mx_snapshot.specs.Events.{first_redaction, is_member, members, rooms_of, states, versions};
 ghost use Rattle.mx_snapshot.specs.Looks.{all_now, at_position, last_position, own_looked, own_now, with_room};
 
 use crate::event_index::EventIndex;
@@ -73,9 +73,10 @@ impl Events {
         Ok(Events { events, index })
     }
 
-    /// The front: the number of events. Takes no memory.
+    /// The front: the number of events, each of which stands at its own position. Takes no memory.
     pub fn front(&self) -> u64
-        ensures { result ≡ length self.now }
+        ensures count { result ≡ length self.now }
+        ensures placed { stand_from position_of 1 self.now ≡ true }
     {
         self.events.front()
     }
@@ -146,6 +147,21 @@ impl Events {
         last_one(room_positions(&self.index.members, room))
     }
 
+    /// The state events of a room at the positions after `low` and up to `high`, in their order. Takes the time of two
+    /// searches among the room's state events, and of those that it gives.
+    pub fn states(
+        &self,
+        alloc: Global,
+        room: &RoomId,
+        low: u64,
+        high: u64,
+    ) -> Result<Vec<&Event>, Memory>
+        ensures { IfOk result (λ made. all_now made.items ≡ between position_of low high (states room.now self.now)) }
+    {
+        let positions = room_positions(&self.index.states, room);
+        gather(alloc, &self.events, within(positions, low, high))
+    }
+
     /// The state events of a room with a type and a key, at the positions after `low` and up to `high`, in their order.
     /// Takes the time of two searches among them, and of those that it gives.
     pub fn versions(
@@ -178,20 +194,12 @@ impl Events {
         ensures { option_copied result ≡ keep_if (λ e. nat_le e.id.at last) (first_redaction self.now position) }
     {
         let by = *self.index.firsts.get(&position)?;
-        if by <= last {
-            self.events.at(by)
-        } else {
-            None
-        }
+        if by <= last { self.events.at(by) } else { None }
     }
 
     /// The rooms in which a user has a member event, in order, each with the last one. Takes the time of a look-up, and of
     /// the rooms.
-    pub fn rooms_of(
-        &self,
-        alloc: Global,
-        user: &str,
-    ) -> Result<Vec<(RoomId, &Event)>, Memory>
+    pub fn rooms_of(&self, alloc: Global, user: &str) -> Result<Vec<(RoomId, &Event)>, Memory>
         ensures { IfOk result (λ made. map own_now made.items ≡ rooms_of user.now self.now) }
     {
         match self.index.own.get(user) {

@@ -7,6 +7,7 @@ mod accounts;
 mod event_index;
 mod events;
 mod gather;
+mod laws;
 mod lists;
 mod looks;
 mod named;
@@ -16,5 +17,6 @@ mod snapshot;
 
 pub use accounts::Accounts;
 pub use events::Events;
+pub use laws::{first_redactions_are, snapshots_cross_threads};
 pub use receipts::Receipts;
 pub use snapshot::Snapshot;

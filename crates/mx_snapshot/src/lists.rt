@@ -13,6 +13,7 @@ use std::alloc::Global;
 use std::collections::BTreeMap;
 
 pub(crate) type Keys = BTreeMap<String, Vec<u64>>;
+
 pub(crate) type Kinds = BTreeMap<String, Keys>;
 
 /// Puts a position at the end of a room's list.
@@ -32,11 +33,7 @@ pub(crate) fn add_to_room(
     }
 }
 
-fn push_in_room(
-    rooms: &mut BTreeMap<RoomId, Vec<u64>>,
-    room: RoomId,
-    at: u64,
-) -> Result<(), Memory>
+fn push_in_room(rooms: &mut BTreeMap<RoomId, Vec<u64>>, room: RoomId, at: u64) -> Result<(), Memory>
     requires { IsSome (tree.get room_cmp rooms.old room) }
     ensures { OnOk result ((r : RoomId) → room_at rooms.new r ≡ room_at rooms.old r ++ one (same_room room r) at) }
 {
@@ -129,11 +126,7 @@ pub(crate) fn add_version(
     push_version(alloc, rooms, room, kind, key, at)
 }
 
-fn make_room(
-    alloc: Global,
-    rooms: &mut BTreeMap<RoomId, Kinds>,
-    room: RoomId,
-) -> Result<(), Memory>
+fn make_room(alloc: Global, rooms: &mut BTreeMap<RoomId, Kinds>, room: RoomId) -> Result<(), Memory>
     ensures same { OnOk result ((r : RoomId) (t k : List ℕ) → version_at rooms.new r t k ≡ version_at rooms.old r t k) }
     ensures there { OnOk result (IsSome (tree.get room_cmp rooms.new room)) }
 {

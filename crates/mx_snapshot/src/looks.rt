@@ -8,10 +8,7 @@ use mx_ids::RoomId;
 use std::collections::BTreeMap;
 
 /// The positions of a room.
-pub(crate) fn room_positions<'a>(
-    rooms: &'a BTreeMap<RoomId, Vec<u64>>,
-    room: &RoomId,
-) -> &'a [u64]
+pub(crate) fn room_positions<'a>(rooms: &'a BTreeMap<RoomId, Vec<u64>>, room: &RoomId) -> &'a [u64]
     ensures { result.now ≡ room_at rooms.now room.now }
 {
     match rooms.get(room) {

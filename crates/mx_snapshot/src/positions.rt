@@ -56,9 +56,5 @@ pub(crate) fn last_one(positions: &[u64]) -> u64
     ensures { result ≡ last_position itself always positions.now }
 {
     let count = positions.len();
-    if count == 0 {
-        0
-    } else {
-        positions[count - 1]
-    }
+    if count == 0 { 0 } else { positions[count - 1] }
 }

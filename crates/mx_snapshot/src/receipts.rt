@@ -58,11 +58,7 @@ impl Receipts {
     }
 
     /// Goes on to a later front: only the receipts after the old one are looked at.
-    pub(crate) fn grown(
-        self,
-        alloc: Global,
-        receipts: Parts<Receipt>,
-    ) -> Result<Receipts, Memory>
+    pub(crate) fn grown(self, alloc: Global, receipts: Parts<Receipt>) -> Result<Receipts, Memory>
         requires begins { Begins self receipts.items }
         requires placed { AreInPlace receipts.items }
         ensures { IfOk result (λ s. s ≡ receipts.items) }

@@ -1,9 +1,5 @@
-use Rattle.std.proofs.Common.{◌≡◌, ◌++◌, ◌&&◌, [], ◌∷◌, List, ℕ, Some, None, Bool, cond, append-nil, refl, sym, ap, ◌∙◌}
-use Rattle.std.specs.BTreeMap.{insert_entry}
-use Rattle.std.specs.Str.{bytes_eq}
-use Rattle.mx_snapshot.specs.Lists.{room_cmp, key_at, kind_at, key_in, kind_in, entries_in, listed, one}
-use Rattle.mx_snapshot.proofs.Texts.{text_made, text_written}
-use Rattle.mx_snapshot.proofs.RoomKeys.{room_made, room_written}
+use Rattle.mx_snapshot.specs.Lists.{entries_in}
+use Rattle.mx_snapshot.proofs.Texts.{text_made}
 use Rattle.mx_snapshot.proofs.event_index.make_own.Goals as goal
 
 pub returns-in_ok-insert-clause-same : goal.returns-in_ok-insert-clause-same

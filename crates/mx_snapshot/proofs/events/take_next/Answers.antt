@@ -1,4 +1,4 @@
-use Rattle.std.proofs.Common.{◌≡◌, ℕ, List, Option, Some, None, nat_le, map, sym, ap, ◌∙◌, OnOk, subst}
+use Rattle.std.proofs.Common.{sym, OnOk, subst}
 use Rattle.mx_snapshot.specs.Indexed.{IsIndexed}
 use Rattle.mx_snapshot.proofs.Found.{take_next}
 use Rattle.mx_snapshot.proofs.events.take_next.Goals as goal

@@ -1,4 +1,4 @@
-use Rattle.std.proofs.Common.{◌≡◌, ◌-◌, suc, arith, sym}
+use Rattle.std.proofs.Common.{arith}
 use Rattle.mx_snapshot.proofs.Lasting.{no_last, one_last}
 use Rattle.mx_snapshot.proofs.positions.last_one.Goals as goal
 

@@ -1,4 +1,4 @@
-use Rattle.std.proofs.Common.{◌≡◌, ◌-◌, leb, arith}
+use Rattle.std.proofs.Common.{◌-◌, leb, arith}
 use Rattle.mx_snapshot.proofs.Lasting.{last_none, last_some}
 use Rattle.mx_snapshot.proofs.positions.last_to.Goals as goal
 

@@ -5,4 +5,4 @@ pub returns-in_ok-take_data-in-Data : goal.returns-in_ok-take_data-in-Data
 returns-in_ok-take_data-in-Data c = λ es was.
     let given = c.in_ok-take_data-in-Data.ensures in
     next_data c.args.self.now c.take_data.new.self es c.args.entry.now c.in-Data.user c.in-Data.kind _ _ c.in-Data.room c.in-Data.content c.in-Data.at c.in-Data.is c.as_str.ensures.text c.as_str-in-Data.ensures
-      given.users given.global given.rooms was
+    given.users given.global given.rooms was

@@ -1,13 +1,10 @@
-use Rattle.std.proofs.Common.{◌≡◌, ℕ, List, Option, Some, None, map, sym, ap, ◌∙◌}
-use Rattle.std.specs.Option.{option_copied}
+use Rattle.std.proofs.Common.{List, ap, ◌∙◌}
 use Rattle.std.proofs.lemmas.Result.{IfOk-weaker}
-use Rattle.mx_account.specs.Entries.{is_data_of, position_of}
+use Rattle.mx_account.specs.Entries.{position_of}
 use Rattle.mx_account.specs.declared.entry.Entry.{Entry}
-use Rattle.mx_window.specs.Lasts.{last_of}
 use Rattle.mx_window.specs.Windows.{between}
 use Rattle.mx_snapshot.specs.Accounts.{is_users, of_user}
-use Rattle.mx_snapshot.specs.Looks.{last_position}
-use Rattle.mx_snapshot.proofs.Found.{test_rises, test_window, test_top, test_last, last_between}
+use Rattle.mx_snapshot.proofs.Found.{test_rises, test_window}
 use Rattle.mx_snapshot.proofs.accounts.Accounts.of_user.Goals as goal
 
 pub within-requires : goal.within-requires
@@ -17,4 +14,4 @@ pub returns : goal.returns
 returns c =
     let es = c.self.inside.entries.items in
     IfOk-weaker c.gather.result _ _ (λ made h. test_window position_of es (is_users c.args.user.now) c.key_positions-positions.result.now c.self.invariant.0 (c.key_positions-positions.ensures ∙ c.self.invariant.1.users c.args.user.now) c.args.low c.args.high c.within.result.now _ c.within.ensures h
-        ∙ ap (λ (l : List Entry). between position_of c.args.low c.args.high (of_user c.args.user.now l)) c.self.view_is) c.gather.ensures
+    ∙ ap (λ (l : List Entry). between position_of c.args.low c.args.high (of_user c.args.user.now l)) c.self.view_is) c.gather.ensures

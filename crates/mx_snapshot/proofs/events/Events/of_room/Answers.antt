@@ -1,17 +1,10 @@
-use Rattle.std.proofs.Common.{◌≡◌, ℕ, List, Option, Some, None, nat_le, map, sym, ap, ◌∙◌}
-use Rattle.mx_ids.specs.declared.room_id.RoomId.{RoomId}
+use Rattle.std.proofs.Common.{List, ap, ◌∙◌}
 use Rattle.mx_event.specs.declared.event.Event.{Event}
 use Rattle.mx_event.specs.Shown.{position_of}
 use Rattle.mx_event.specs.Lawful.{of_room, same_room}
-use Rattle.mx_event.specs.Kinds.{has_key}
 use Rattle.mx_window.specs.Windows.{between}
-use Rattle.mx_window.specs.Lasts.{keep_if, last, last_of}
 use Rattle.std.proofs.lemmas.Result.{IfOk-weaker}
-use Rattle.mx_snapshot.specs.Events.{is_member, is_version, members, versions, first_redaction, rooms_of}
-use Rattle.mx_snapshot.specs.Looks.{last_position, own_now}
-use Rattle.mx_snapshot.specs.Lists.{entries_in}
-use Rattle.mx_snapshot.proofs.Found.{test_rises, test_window, test_ending, test_top}
-use Rattle.mx_snapshot.proofs.Looked.{last_version, first_kept, own_is, no_rooms}
+use Rattle.mx_snapshot.proofs.Found.{test_rises, test_window}
 use Rattle.mx_snapshot.proofs.events.Events.of_room.Goals as goal
 
 pub within-requires : goal.within-requires
@@ -21,4 +14,4 @@ pub returns : goal.returns
 returns c =
     let es = c.self.inside.events.items in
     IfOk-weaker c.gather.result _ _ (λ made h. test_window position_of es (λ (e : Event). same_room e.room c.args.room.now) c.room_positions-positions.result.now c.self.invariant.0 (c.room_positions-positions.ensures ∙ c.self.invariant.1.rooms c.args.room.now) c.args.low c.args.high c.within.result.now _ c.within.ensures h
-        ∙ ap (λ (l : List Event). between position_of c.args.low c.args.high (of_room c.args.room.now l)) c.self.view_is) c.gather.ensures
+    ∙ ap (λ (l : List Event). between position_of c.args.low c.args.high (of_room c.args.room.now l)) c.self.view_is) c.gather.ensures

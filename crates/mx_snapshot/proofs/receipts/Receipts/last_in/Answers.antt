@@ -1,12 +1,9 @@
-use Rattle.std.proofs.Common.{◌≡◌, ℕ, List, Option, Some, None, map, sym, ap, ◌∙◌}
-use Rattle.std.proofs.lemmas.Result.{IfOk-weaker}
+use Rattle.std.proofs.Common.{ap, ◌∙◌}
 use Rattle.mx_event.specs.Lawful.{same_room}
 use Rattle.mx_receipt.specs.Receipts.{position_of}
 use Rattle.mx_receipt.specs.declared.receipt.Receipt.{Receipt}
-use Rattle.mx_window.specs.Windows.{between}
 use Rattle.mx_snapshot.specs.Looks.{last_position}
-use Rattle.mx_snapshot.specs.Receipts.{of_room}
-use Rattle.mx_snapshot.proofs.Found.{test_rises, test_window, test_top}
+use Rattle.mx_snapshot.proofs.Found.{test_top}
 use Rattle.mx_snapshot.proofs.receipts.Receipts.last_in.Goals as goal
 
 pub returns : goal.returns

@@ -1,0 +1,4 @@
+pub mod Joined
+pub mod LastJoin
+pub mod Parted
+pub mod Walked
