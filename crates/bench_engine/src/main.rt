@@ -6,12 +6,12 @@ mod room;
 mod words;
 
 use crate::room::measure;
-use crate::words::{Wanted, wanted};
+use crate::words::{Wanted, read_words};
 use mx_outside::{Clock, HostClock, Sink, StdOut};
 use std::process::ExitCode;
 
 fn main(rt: HostRuntime) -> ExitCode {
-    let Some(Wanted { events, sends }) = wanted(&rt) else {
+    let Some(Wanted { events, sends }) = read_words(&rt) else {
         return ExitCode::from(0);
     };
     let mut clock = HostClock::new(rt);

@@ -12,7 +12,7 @@ pub struct Wanted {
 }
 
 /// What the words ask: two numbers.
-pub fn wanted(rt: &HostRuntime) -> Option<Wanted> {
+pub fn read_words(rt: &HostRuntime) -> Option<Wanted> {
     let mut words = env::args(rt).ok()?.skip(1);
     let events = words.next()?.parse().ok()?;
     let sends = words.next()?.parse().ok()?;
