@@ -1,4 +1,4 @@
-//! Tests of the lower crates, through their public items: the outside, ids and tokens, JSON, HTTP, the machine of a stream
+//! Tests of the lower crates, through their public items: the outside, ids and tokens, users, JSON, HTTP, the machine of a stream
 //! and its lanes.
 #![tactic(auto)]
 
@@ -22,3 +22,5 @@ mod make;
 mod requests;
 #[cfg(test)]
 mod sources_and_sinks;
+#[cfg(test)]
+mod users_file;
