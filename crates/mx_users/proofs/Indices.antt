@@ -1,5 +1,5 @@
 -- What the look-ups of a list find once a user or a device is added.
-use Rattle.std.proofs.Common.{◌≡◌, ℕ, ◌+◌, ◌≤◌, Bool, true, false, cond, not, ◌&&◌, ◌||◌, ◌==◌, List, [], ◌∷◌, ◌++◌, length, refl, sym, ap, ap₂, subst, ◌∙◌, arith, Option, None, Some, BTreeMap, BTreeSet, nat_cmp, is_eq, Ordering, ltb, true≢false}
+use Rattle.std.proofs.Common.{◌≡◌, ℕ, ◌+◌, ◌≤◌, Bool, true, false, cond, not, ◌&&◌, ◌||◌, ◌==◌, List, [], ◌∷◌, ◌++◌, length, suc, refl, sym, ap, ap₂, subst, ◌∙◌, arith, Option, None, Some, BTreeMap, BTreeSet, nat_cmp, is_eq, Ordering, ltb}
 use Rattle.std.proofs.lemmas.Bool.{cases_Bool, cond-true, cond-false}
 use Rattle.std.proofs.lemmas.Bool.Decides.{nat_tests}
 use Rattle.std.proofs.lemmas.Grind.{common_steps}
@@ -7,7 +7,7 @@ use Rattle.std.proofs.lemmas.List.{length_push}
 use Rattle.std.proofs.lemmas.List.Folds.{list_any-append, position_or_len_push}
 use Rattle.std.proofs.lemmas.List.Sums.{prefix_len-le-length}
 use Rattle.std.proofs.lemmas.Map.Text.{is_eq-slice_cmp}
-use Rattle.std.proofs.lemmas.Option.{cond_some, none-some}
+use Rattle.std.proofs.lemmas.Option.{cond_some}
 use Rattle.std.proofs.lemmas.Slice.Eq.{bytes_eq-Decides}
 use Rattle.std.specs.BTreeMap as tree
 use Rattle.std.specs.BTreeSet as sorted
@@ -50,6 +50,7 @@ module _ {X : Type 0} (p : X → Bool) where
     where
       onward : (n m : ℕ) → ltb (1 + n) (suc m) ≡ ltb n m
       onward n m = grind (arith, nat_tests)
+
       by : (b : Bool) → ltb (position_or_len p xs) (length xs) ≡ list_any p xs → ltb (cond (not b) (1 + position_or_len p xs) 0) (length (x ∷ xs)) ≡ (b || list_any p xs)
       by true e = grind (arith, nat_tests)
       by false e = onward (position_or_len p xs) (length xs) ∙ e
@@ -94,7 +95,7 @@ module _ {X : Type 0} (key : X → List ℕ) where
   places_push m n xs x none h old q =
       h.0 q ∙ ap (λ b. cond b (Some (length xs)) (tree.get (slice_cmp nat_cmp) m q)) (is_eq-slice_cmp (key x) q) ∙ ⊎_elim
       (λ hit. cond-true _ _ _ hit ∙ sym (hit_push (λ y. bytes_eq (key y) (key x)) xs x none ((bytes_eq-Decides (key x) (key x)).1 refl))
-          ∙ ap (λ r. position (λ y. bytes_eq (key y) r) (xs ++ x ∷ [])) ((bytes_eq-Decides (key x) q).0 hit))
+      ∙ ap (λ r. position (λ y. bytes_eq (key y) r) (xs ++ x ∷ [])) ((bytes_eq-Decides (key x) q).0 hit))
       (λ miss. cond-false _ _ _ miss ∙ old q ∙ sym (miss_push (λ y. bytes_eq (key y) q) xs x miss))
       (cases_Bool (bytes_eq (key x) q))
 

@@ -1,5 +1,5 @@
 -- What stands before and behind a mark, and the lines of a file.
-use Rattle.std.proofs.Common.{◌≡◌, ℕ, ◌+◌, ◌<◌, ◌≤◌, Bool, true, false, cond, not, ◌==◌, List, [], ◌∷◌, length, take, refl, sym, ap, ap₂, ◌∙◌, arith, length-drop, ltb, ltb-true, ltb-false, Option, None, Some, Result, Ok, Err, true≢false}
+use Rattle.std.proofs.Common.{◌≡◌, ℕ, ◌+◌, ◌<◌, ◌≤◌, Bool, true, false, cond, not, ◌==◌, List, [], ◌∷◌, length, take, refl, sym, ap, ap₂, subst, ◌∙◌, arith, length-drop, eqb-true, ltb, ltb-true, ltb-false, Option, Some, Result, Ok, Err, true≢false}
 use Rattle.std.proofs.lemmas.Bool.{cases_Bool, cond-false}
 use Rattle.std.proofs.lemmas.Bool.Decides.{nat_tests}
 use Rattle.std.proofs.lemmas.Grind.{common_steps}
@@ -40,6 +40,11 @@ module _ {A : Type 0} (F : List (List ℕ) → A) where
       ap F whole ∙ same xs ∙ sym (ap₂ (λ b a. F (b ∷ slice_split p a)) (before_none p xs e) (after_none p xs e)))
       (cases_Bool (ltb (position_or_len p xs) (length xs)))
 
+pub shorter : (rest after : List ℕ) → (length rest == 0) ≡ false → after ≡ after_first (λ c. c == 10) rest → length after < length rest
+shorter rest after some later =
+    let more : 0 < length rest = grind (arith, some, nat_tests) in
+    subst (λ a. length a < length rest) (sym later) (after_shorter (λ c. c == 10) rest more)
+
 -- ---- the steps of the reader
 
 module _ (u : Users) (n : ℕ) (rest line after : List ℕ) (same : line ≡ before_first (λ c. c == 10) rest) (later : after ≡ after_first (λ c. c == 10) rest) where
@@ -57,6 +62,10 @@ module _ (u : Users) (n : ℕ) (rest line after : List ℕ) (same : line ≡ bef
 pub skipped : (n : ℕ) (cs : List ℕ) → users_of_lines n (slice_split (λ c. c == 10) (10 ∷ cs)) ≡ users_of_lines (n + 1) (slice_split (λ c. c == 10) cs)
 skipped n cs = ap (users_of_lines n) (slice_split-cons_yes (λ c. c == 10) 10 cs refl)
 
+pub no_line : (n : ℕ) (rest : List ℕ) → (length rest == 0) ≡ true → users_of_lines n (slice_split (λ c. c == 10) rest) ≡ Err 1
+no_line n [] none = refl
+no_line n (c ∷ cs) none = absurd (omega (arith, eqb-true (length (c ∷ cs)) 0 none))
+
 full_line : (c : ℕ) (cs : List ℕ) → (c == 10) ≡ false → (length (before_first (λ c. c == 10) (c ∷ cs)) == 0) ≡ false
 full_line c cs e = ap (λ b. length (take (cond (not b) (1 + position_or_len (λ c. c == 10) cs) 0) (c ∷ cs)) == 0) e ∙ grind (arith, common_steps, nat_tests)
 
@@ -67,6 +76,16 @@ first_line n (c ∷ cs) line after some full same later =
     let xs : List ℕ = c ∷ cs in
     cut_lines (users_of_lines n) xs (λ x. refl) ∙ cond-false _ _ _ (full_line c cs full)
     ∙ sym (ap₂ (λ l a. and_then (λ server. with_lines (only_server server) (n + 1) (slice_split (λ c. c == 10) a)) (ok_or (server_in l) (n + 1))) same later)
+
+-- the lines behind the first, where it names a server, are read as those of the file
+pub read_on : {A : Type 0} (whole : Result Users ℕ) (n : ℕ) (o : Option (List ℕ)) (server name : List ℕ) (u : Users) (lines : List (List ℕ)) (f : A → Users) (r : Result A UsersFault)
+    → whole ≡ and_then (λ server. with_lines (only_server server) (n + 1) lines) (ok_or o (n + 1)) → o ≡ Some server → name ≡ server → u ≡ only_server name
+    → Reads (with_lines u (n + 1) lines) f r → Reads whole f r
+read_on whole n o server name u lines f r first found copied started reads =
+    let rest = λ (s : List ℕ). with_lines (only_server s) (n + 1) lines in
+    let same : with_lines u (n + 1) lines ≡ whole =
+    ap (λ v. with_lines v (n + 1) lines) (started ∙ ap only_server copied) ∙ sym (first ∙ ap (λ o. and_then rest (ok_or o (n + 1))) found) in
+    subst (λ t. Reads t f r) same reads
 
 -- a fault that is handed on, where what was told at a line is told of the whole
 pub handed_on : {A B : Type 0} (part whole : Result Users ℕ) (f : A → Users) (g : B → Users) (e : UsersFault) → ((m : ℕ) → part ≡ Err m → whole ≡ Err m) → Reads part f (Err e) → Reads whole g (Err e)

@@ -1,6 +1,6 @@
 -- What a users file gives are users of one server, each once, with each device name of a user and each token once.
-use Rattle.std.proofs.Common.{◌≡◌, ◌≢◌, ℕ, ◌+◌, ◌<◌, ◌≤◌, Bool, true, false, cond, ◌&&◌, ◌||◌, ◌==◌, List, [], ◌∷◌, ◌++◌, length, get_or, refl, sym, ap, subst, ◌∙◌, arith, Option, None, Some, ltb, ltb-true, ltb-false, leb, leb-true, eq-eqb, true≢false}
-use Rattle.std.proofs.lemmas.Bool.{cases_Bool, and_parts, and_from, cond-false, cond-true}
+use Rattle.std.proofs.Common.{◌≡◌, ◌≢◌, ℕ, ◌+◌, ◌<◌, ◌≤◌, Bool, true, false, cond, ◌&&◌, ◌||◌, ◌==◌, List, [], ◌∷◌, ◌++◌, length, get_or, refl, sym, subst, ◌∙◌, arith, Option, None, Some, ltb, ltb-true, ltb-false, leb, leb-true, eq-eqb, true≢false}
+use Rattle.std.proofs.lemmas.Bool.{cases_Bool, and_parts, and_from}
 use Rattle.std.proofs.lemmas.List.{length_push}
 use Rattle.std.proofs.lemmas.List.Elements.{All-push}
 use Rattle.std.proofs.lemmas.List.Folds.{list_any_at}
@@ -10,7 +10,7 @@ use Rattle.std.proofs.lemmas.Option.{cond_some, same_Some, none-some, option_and
 use Rattle.std.proofs.lemmas.Slice.Eq.{bytes_eq-Decides}
 use Rattle.std.specs.List.{All, before_first, slice_split}
 use Rattle.std.specs.Str.{bytes_eq, is_utf8}
-use Rattle.std.specs.Prelude.{option_and_then, ok_or, codes, Result, Ok, Err, IfOk}
+use Rattle.std.specs.Prelude.{ok_or, codes, Result, Ok, IfOk}
 use mathlib.Core.Logic.{⊎_elim}
 use Rattle.mx_ids.specs.Name.{is_server_name, is_localpart, is_device_name, is_access_token}
 use Rattle.mx_ids.specs.User.{is_user_id_text, is_sigil_and_visible, is_visible, server_of as server_part, user_id_text, IsUserId}
@@ -190,6 +190,7 @@ lines_valid before (line ∷ lines) = by (length line == 0) (lines_valid (before
   where
     rest : List ℕ → Result Users ℕ
     rest server = with_lines (only_server server) (before + 1) lines
+
     by : (empty : Bool) → IfOk (users_of_lines (before + 1) lines) IsUsers → IfOk (cond empty (users_of_lines (before + 1) lines) (and_then rest (ok_or (server_in line) (before + 1)))) IsUsers
     by true later = later
     by false later = chained (server_in line) (before + 1) rest (λ server e. with_lines_valid _ (before + 1) lines (only_server_valid server (server_in_valid line server e)))

@@ -1,6 +1,6 @@
 -- The users file: a line `server NAME`, then lines `LOCALPART DEVICE TOKEN`. Lines end with LF, the last may lack
 -- it, and empty lines are passed over, but counted.
-use Rattle.std.specs.Prelude.{◌≡◌, ℕ, ◌+◌, ◌&&◌, ◌||◌, ◌==◌, List, [], ◌∷◌, ◌++◌, Bool, false, not, Option, Some, None, Result, Ok, Err, length, nat_lt, nat_eq, ok_or, if◌then◌else◌, option_and_then, codes}
+use Rattle.std.specs.Prelude.{◌≡◌, ℕ, ◌+◌, ◌&&◌, ◌||◌, ◌==◌, List, [], ◌∷◌, ◌++◌, Bool, false, Option, Some, None, Result, Ok, Err, length, nat_lt, nat_eq, ok_or, if◌then◌else◌, option_and_then, codes}
 use Rattle.std.specs.List.{list_any, position_or_len, before_first, after_first, slice_split}
 use Rattle.std.specs.Str.{bytes_eq, is_utf8}
 use Rattle.mx_ids.specs.Name.{is_server_name, is_localpart, is_device_name, is_access_token}

@@ -1,7 +1,7 @@
 use Rattle.std.proofs.Common.{◌≡◌, None, Some, Option, sym, subst}
 use Rattle.std.specs.Prelude.{IfOk, IsErrOf}
 use Rattle.mx_ids.specs.declared.users.Users.{Users}
-use Rattle.mx_users.specs.UsersFile.{with_bytes, with_text}
+use Rattle.mx_users.specs.UsersFile.{with_text}
 use Rattle.mx_users.specs.declared.fault.LineFault.TheVariants.{Broken}
 use Rattle.mx_users.proofs.Utf8.{of_text, of_bytes}
 use Rattle.mx_users.proofs.users_file.read_bytes.Goals as goal
