@@ -1,5 +1,5 @@
 -- The status, error code and text of each refusal of a call (Client-Server API, Standard error response).
-use Rattle.std.specs.Prelude.{ℕ, List, [], ◌∷◌, ◌++◌, codes, decimal}
+use Rattle.std.specs.Prelude.{ℕ, List, [], ◌∷◌, ◌++◌, codes}
 use Rattle.mx_create.specs.declared.body.BodyField.TheVariants as body
 use Rattle.mx_event.specs.Forms.{member}
 use Rattle.mx_json.specs.declared.value.Json.{Json}

@@ -1,1 +1,4 @@
+pub mod Bodies
+pub mod Calls
 pub mod Errors
+pub mod Routing

@@ -1,10 +1,18 @@
-//! What calls of the Client-Server API have in common: what a call asks, and why one is refused before an engine is asked.
+//! What calls of the Client-Server API have in common: which route a path has, who calls, and why a call is refused before
+//! an engine is asked.
 #![tactic(auto)]
 
 mod asked;
+mod authenticated;
+mod bodies;
+mod parts;
 mod refused;
+mod routing;
 mod texts;
 
 pub use asked::Asked;
+pub use authenticated::{Authenticated, authenticate};
+pub use bodies::{object_body, post_body, text_field};
 pub use refused::{Field, Parameter, Refused, refused_json};
+pub use routing::{Path, route_at, router_of};
 pub use texts::{error_json, text};

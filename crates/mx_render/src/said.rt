@@ -10,7 +10,10 @@ use crate::engine_error::{code_of, status_of, text_of};
 use mx_api::{error_json, text};
 use mx_engine::{Reply, Said};
 use mx_http::{Answer, Body};
-use mx_ids::{EventId, Memory, RoomId, Seq, SyncToken, Text, UserId, write_event_id, write_room_id, write_sync_token};
+use mx_ids::{
+    EventId, Memory, RoomId, Seq, SyncToken, Text, UserId, write_event_id, write_room_id,
+    write_sync_token,
+};
 use mx_json::{Json, Members};
 use std::alloc::Global;
 
@@ -71,7 +74,10 @@ fn named_json(alloc: Global, user: UserId, device: Text) -> Result<Json, Memory>
 {
     let mut object = Members::new(alloc);
     object.push(text(alloc, "device_id")?, Json::Text(device))?;
-    object.push(text(alloc, "user_id")?, Json::Text(text(alloc, user.as_str())?))?;
+    object.push(
+        text(alloc, "user_id")?,
+        Json::Text(text(alloc, user.as_str())?),
+    )?;
     Ok(Json::Object(object))
 }
 

@@ -1,0 +1,37 @@
+//! The parts of a path.
+ghost use Rattle.std.specs.Prelude.{◌≡◌, ◌==◌, IfOk, map};
+ghost use Rattle.std.specs.List.{slice_split};
+ghost use Rattle.mx_api.specs.Calls.{raw_parts};
+
+use crate::texts::text;
+use mx_ids::{Memory, Seq, Text};
+use std::alloc::Global;
+
+/// The parts behind the fifth slash, as they stand.
+pub(crate) fn raw_parts(alloc: Global, path: &str) -> Result<Seq<Text>, Memory>
+    ensures { IfOk result (λ parts. parts ≡ raw_parts path.now) }
+{
+    let pieces = pieces(alloc, path)?;
+    match pieces.as_slice() {
+        [_, _matrix, _client, _version, _first, parts @ ..] => texts(alloc, parts),
+        _ => Ok(Seq::new(alloc)),
+    }
+}
+
+/// What stands between the slashes.
+fn pieces(alloc: Global, path: &str) -> Result<Vec<&str>, Memory>
+    ensures { IfOk result (λ v. map (λ x. x.now) v.items ≡ slice_split (λ b. b == 47) path.now) }
+{
+    Ok(path.split('/').collect(alloc)?)
+}
+
+/// Texts of their own.
+fn texts(alloc: Global, pieces: &[&str]) -> Result<Seq<Text>, Memory>
+    ensures { IfOk result (λ texts. texts ≡ map (λ x. x.now) pieces.now) }
+{
+    let mut texts = Vec::with_capacity(alloc, pieces.len())?;
+    'pieces: for piece in pieces {
+        texts.push(text(alloc, piece)?)?;
+    }
+    Ok(Seq::from_vec(texts))
+}
