@@ -1,4 +1,5 @@
 pub mod Bodies
 pub mod Calls
 pub mod Errors
+pub mod Parts
 pub mod Routing

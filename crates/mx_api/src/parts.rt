@@ -2,6 +2,7 @@
 ghost use Rattle.std.specs.Prelude.{◌≡◌, ◌==◌, IfOk, map};
 ghost use Rattle.std.specs.List.{slice_split};
 ghost use Rattle.mx_api.specs.Calls.{raw_parts};
+ghost use Rattle.mx_api.specs.Parts.{four_parts, one_part, three_parts, two_parts};
 
 use crate::texts::text;
 use mx_ids::{Memory, Seq, Text};
@@ -34,4 +35,56 @@ fn texts(alloc: Global, pieces: &[&str]) -> Result<Seq<Text>, Memory>
         texts.push(text(alloc, piece)?)?;
     }
     Ok(Seq::from_vec(texts))
+}
+
+/// The part, where there is one. Takes no memory.
+pub fn one_part(parts: Seq<Text>) -> Option<Text>
+    ensures { result ≡ one_part parts }
+{
+    let mut parts = parts.into_vec().into_iter();
+    match (parts.next(), parts.next()) {
+        (Some(first), None) => Some(first),
+        _ => None,
+    }
+}
+
+/// The parts, where there are two. Takes no memory.
+pub fn two_parts(parts: Seq<Text>) -> Option<(Text, Text)>
+    ensures { result ≡ two_parts parts }
+{
+    let mut parts = parts.into_vec().into_iter();
+    match (parts.next(), parts.next(), parts.next()) {
+        (Some(first), Some(second), None) => Some((first, second)),
+        _ => None,
+    }
+}
+
+/// The parts, where there are three. Takes no memory.
+pub fn three_parts(parts: Seq<Text>) -> Option<(Text, Text, Text)>
+    ensures { result ≡ three_parts parts }
+{
+    let mut parts = parts.into_vec().into_iter();
+    match (parts.next(), parts.next(), parts.next(), parts.next()) {
+        (Some(first), Some(second), Some(third), None) => Some((first, second, third)),
+        _ => None,
+    }
+}
+
+/// The parts, where there are four. Takes no memory.
+pub fn four_parts(parts: Seq<Text>) -> Option<(Text, Text, Text, Text)>
+    ensures { result ≡ four_parts parts }
+{
+    let mut parts = parts.into_vec().into_iter();
+    match (
+        parts.next(),
+        parts.next(),
+        parts.next(),
+        parts.next(),
+        parts.next(),
+    ) {
+        (Some(first), Some(second), Some(third), Some(fourth), None) => {
+            Some((first, second, third, fourth))
+        }
+        _ => None,
+    }
 }

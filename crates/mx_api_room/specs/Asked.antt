@@ -1,9 +1,60 @@
--- What a call asks. A STAND-IN: the crate's own helper gives the definition.
-use Rattle.std.specs.Prelude.{}
+-- What a call on a room asks, or the first refusal.
+use Rattle.std.specs.Prelude.{ℕ, List, Option, Some, None, option_map, if◌then◌else◌}
+use Rattle.matchit.specs.Seek.{first}
 use Rattle.mx_ids.specs.declared.users.Users.{Users}
+use Rattle.mx_json.specs.declared.value.Json.{Json}
+use Rattle.mx_http.specs.Queries.{path_of}
 use Rattle.mx_http.specs.declared.call.Call.{Call}
+use Rattle.mx_create.specs.Bodies.{wrong_field}
+use Rattle.mx_create.specs.declared.body.BodyField.{BodyField}
+use Rattle.mx_engine.specs.declared.ask.Ask.TheVariants as ask
+use Rattle.mx_engine.specs.declared.ask.Who.{Who}
+use Rattle.mx_api.specs.Bodies.{posted}
+use Rattle.mx_api.specs.Calls.{asked_by, authenticated, request}
+use Rattle.mx_api.specs.Parts.{one_part}
 use Rattle.mx_api.specs.declared.asked.Asked.{Asked}
 use Rattle.mx_api.specs.declared.asked.Asked.TheVariants as asked
+use Rattle.mx_api.specs.declared.authenticated.Authenticated.{Authenticated}
+use Rattle.mx_api.specs.declared.refused.Field.TheVariants as field
+use Rattle.mx_api.specs.declared.refused.Refused.TheVariants as refused
+use Rattle.mx_api_room.specs.Events.{redact_asked, send_asked, state_asked, state_at_key_asked}
+use Rattle.mx_api_room.specs.Membership.{change_asked, join_asked, leave_asked, room_of}
+use Rattle.mx_api_room.specs.Routes.{has_method, table}
+use Rattle.mx_api_room.specs.declared.membership.Change.TheVariants as change
+use Rattle.mx_api_room.specs.declared.route.Route.{Route}
+use Rattle.mx_api_room.specs.declared.route.Route.TheVariants as route
 
+abbrev pub creation_by : Who → Json → Option BodyField → Asked
+creation_by who body None = request who (ask.CreateRoom body)
+creation_by who body (Some wrong) = asked.Refused (refused.BadShape (field.Creation wrong))
+
+abbrev pub creation_asked : Who → Json → Asked
+creation_asked who body = creation_by who body (wrong_field body)
+
+-- POST /createRoom (Client-Server API, Creation)
+unfoldable pub create_asked : Authenticated → List ℕ → Asked
+create_asked call body = asked_by (creation_asked call.who) (posted body)
+
+abbrev pub route_asked : Route → List ℕ → Authenticated → Asked
+route_asked route.CreateRoom body call = create_asked call body
+route_asked route.Send body call = send_asked call body
+route_asked route.StateAtKey body call = state_at_key_asked call body
+route_asked route.StateAtEmptyKey body call = state_at_key_asked call body
+route_asked route.State body call = state_asked call body
+route_asked route.Redact body call = redact_asked call body
+route_asked route.JoinById body call = join_asked call.who (one_part call.parts) body
+route_asked route.Join body call = join_asked call.who (room_of call.parts) body
+route_asked route.Leave body call = leave_asked call.who (room_of call.parts) body
+route_asked route.Invite body call = change_asked change.Invite call.who (room_of call.parts) body
+route_asked route.Kick body call = change_asked change.Kick call.who (room_of call.parts) body
+route_asked route.Ban body call = change_asked change.Ban call.who (room_of call.parts) body
+route_asked route.Unban body call = change_asked change.Unban call.who (room_of call.parts) body
+
+abbrev pub asked_on : Users → Call → Option Route → Asked
+asked_on users call None = asked.NoRoute
+asked_on users call (Some route) =
+    if has_method route call.method then asked_by (route_asked route call.body) (authenticated users call) else asked.Refused refused.NoMethod
+
+-- what a call asks by the route that its path finds, or the first refusal
 unfoldable pub room_asked : Users → Call → Asked
-room_asked users call = asked.NoRoute
+room_asked users call = asked_on users call (option_map (λ row. row.value) (first table (path_of call.target)))

@@ -1,1 +1,4 @@
 pub mod Asked
+pub mod Events
+pub mod Membership
+pub mod Routes

@@ -1,6 +1,10 @@
-//! STAND-IN: the crate's own helper writes it.
+//! What calls on rooms ask: to create one, to send and redact events, and to change memberships.
 #![tactic(auto)]
 
-mod asked;
+mod ask;
+mod creation;
+mod events;
+mod membership;
+mod route;
 
-pub use asked::{RoomRoutes, ask_room, room_routes};
+pub use ask::{RoomRoutes, ask_room, room_routes};

@@ -1,1 +1,4 @@
 pub mod Asked
+pub mod Parameters
+pub mod Queries
+pub mod Routes

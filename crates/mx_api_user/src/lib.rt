@@ -1,6 +1,8 @@
-//! STAND-IN: the crate's own helper writes it.
+//! What calls on a user's own data ask: who it is, a sync, and account data.
 #![tactic(auto)]
 
-mod asked;
+mod ask;
+mod route;
+mod sync_query;
 
-pub use asked::{UserRoutes, ask_user, user_routes};
+pub use ask::{UserRoutes, ask_user, user_routes};

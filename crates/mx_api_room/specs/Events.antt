@@ -1,0 +1,39 @@
+-- Calls that send events to a room (Client-Server API, Sending events to a room, Redactions).
+use Rattle.std.specs.Prelude.{ℕ, List, [], ◌∷◌, codes}
+use Rattle.mx_json.specs.Fields.{text_at}
+use Rattle.mx_json.specs.declared.value.Json.{Json}
+use Rattle.mx_event.specs.declared.event.Txn.{Txn}
+use Rattle.mx_engine.specs.declared.ask.Ask.TheVariants as ask
+use Rattle.mx_engine.specs.declared.ask.Who.{Who}
+use Rattle.mx_api.specs.Bodies.{object_of}
+use Rattle.mx_api.specs.Calls.{asked_by, request}
+use Rattle.mx_api.specs.Parts.{asked_of, four_parts, three_parts}
+use Rattle.mx_api.specs.declared.asked.Asked.{Asked}
+use Rattle.mx_api.specs.declared.authenticated.Authenticated.{Authenticated}
+
+-- the transaction of a device by the parts of a path: its id is the last, and those before it are its path
+abbrev pub txn_of : ℕ → List ℕ × List ℕ × List ℕ × List ℕ → Txn
+txn_of device p = record { device = device; id = p.3; path = p.0 ∷ p.1 ∷ p.2 ∷ [] }
+
+-- PUT /rooms/{roomId}/send/{eventType}/{txnId}, by the parts from `{roomId}` on
+unfoldable pub send_asked : Authenticated → List ℕ → Asked
+send_asked call body =
+    asked_of (λ p. asked_by (λ content. request call.who (ask.Send p.0 p.2 (txn_of call.who.device p) content)) (object_of body)) (four_parts call.parts)
+
+-- PUT /rooms/{roomId}/state/{eventType}/{stateKey}, and the same with nothing behind the last slash, which is the empty key
+unfoldable pub state_at_key_asked : Authenticated → List ℕ → Asked
+state_at_key_asked call body =
+    asked_of (λ p. asked_by (λ content. request call.who (ask.PutState p.0 p.2 p.3 content)) (object_of body)) (four_parts call.parts)
+
+-- PUT /rooms/{roomId}/state/{eventType}
+unfoldable pub state_asked : Authenticated → List ℕ → Asked
+state_asked call body =
+    asked_of (λ p. asked_by (λ content. request call.who (ask.PutState p.0 p.2 [] content)) (object_of body)) (three_parts call.parts)
+
+abbrev pub redaction_asked : Who → List ℕ → List ℕ → Txn → Json → Asked
+redaction_asked who room event txn body = request who (ask.Redact room event txn (text_at (codes "reason") body))
+
+-- PUT /rooms/{roomId}/redact/{eventId}/{txnId}
+unfoldable pub redact_asked : Authenticated → List ℕ → Asked
+redact_asked call body =
+    asked_of (λ p. asked_by (redaction_asked call.who p.0 p.2 (txn_of call.who.device p)) (object_of body)) (four_parts call.parts)
