@@ -1,5 +1,5 @@
 -- What a clause reads of an engine, of its passes and of what a writer is asked to store.
-use Rattle.std.specs.Prelude.{◌≡◌, ℕ, ◌<◌, Ok, Err, true}
+use Rattle.std.specs.Prelude.{◌≡◌, ℕ, ◌<◌, Ok, Err, Some, slice_get, true}
 use Rattle.mx_create.specs.Bodies.{is_create_body}
 use Rattle.mx_front.specs.Shown.{place_of, place_of_pass, reads, seen_by, stop_of}
 use Rattle.mx_writers.specs.declared.gate.Gate.{Ghosts}
@@ -28,9 +28,11 @@ abbrev pub LooksFor : Ask → EnginePass → EnginePass → Type 0
 LooksFor ask.WhoAmI old new = Unit {0}
 LooksFor other old new = HasLooked old new
 
--- the body of a room's creation has the form
+-- the body of a room's creation has the form, and the path of a transaction names the room
 abbrev pub IsAsk : Ask → Type 0
 IsAsk (ask.CreateRoom body) = is_create_body body ≡ true
+IsAsk (ask.Send room kind txn content) = slice_get txn.path 0 ≡ Some room
+IsAsk (ask.Redact room event txn reason) = slice_get txn.path 0 ≡ Some room
 IsAsk other = Unit {0}
 
 abbrev pub aimed_of : Aim → Aimed

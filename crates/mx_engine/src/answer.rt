@@ -132,7 +132,7 @@ impl<G: Gate + Drop> Engine<G> {
     fn named(&self, alloc: Global, who: &Who) -> Result<Said, Memory>
         ensures { IfOk result (λ said. said ≡ whoami_said (site_of self.now) who.now) }
     {
-        let name = match self.users.devices.get(who.device as usize) {
+        let name = match self.users.users().devices.get(who.device as usize) {
             Some(device) => device.name.copy(alloc)?,
             None => Text::new(alloc),
         };

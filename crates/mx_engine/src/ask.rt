@@ -20,7 +20,8 @@ pub enum Ask {
     CreateRoom {
         body: Json,
     },
-    /// To send a message event to a room (`PUT /rooms/{roomId}/send/{eventType}/{txnId}`).
+    /// To send a message event to a room (`PUT /rooms/{roomId}/send/{eventType}/{txnId}`). The transaction's path begins with
+    /// the room: `[room, "send", kind]`.
     Send {
         room: Text,
         kind: Text,
@@ -34,7 +35,8 @@ pub enum Ask {
         key: Text,
         content: Json,
     },
-    /// To redact an event of a room (`PUT /rooms/{roomId}/redact/{eventId}/{txnId}`).
+    /// To redact an event of a room (`PUT /rooms/{roomId}/redact/{eventId}/{txnId}`). The transaction's path begins with the
+    /// room: `[room, "redact", event]`.
     Redact {
         room: Text,
         event: Text,

@@ -9,14 +9,14 @@ use crate::receipts::Receipts;
 use mx_account::Entry;
 use mx_event::Event;
 use mx_front::Pass;
-use mx_ids::Users;
 use mx_receipt::Receipt;
+use mx_users::Directory;
 use mx_writers::{Gate, Writers};
 
 /// A homeserver: its users, and the streams of events, receipts and account data with their writers.
 #[derive(Drop)]
 pub struct Engine<G: Gate + Drop> {
-    pub(crate) users: Users,
+    pub(crate) users: Directory,
     pub(crate) workers: u8,
     pub(crate) events: Writers<Rooms>,
     pub(crate) receipts: Writers<Receipts>,

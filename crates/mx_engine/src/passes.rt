@@ -5,12 +5,13 @@ ghost use Rattle.mx_engine.specs.Answers.{AllBegin};
 ghost use Rattle.mx_engine.specs.Shown.{Ties, lists_of};
 
 use crate::held::{Engine, EnginePass};
-use mx_ids::{Memory, Users};
+use mx_ids::Memory;
+use mx_users::Directory;
 use mx_writers::Gate;
 
 impl<G: Gate + Drop> Engine<G> {
-    /// The users of the server. Takes no memory.
-    pub fn users(&self) -> &Users
+    /// The users of the server, found by look-ups. Takes no memory.
+    pub fn users(&self) -> &Directory
         ensures { result.now ≡ self.now.users }
     {
         &self.users

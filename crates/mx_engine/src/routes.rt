@@ -1,6 +1,6 @@
 //! What the routes of rooms ask a writer of events to store.
 
-ghost use Rattle.std.specs.Prelude.{◌≡◌, ◌<◌, ◌%◌, true, IfOk, IfSome, bytes_eq, codes, position};
+ghost use Rattle.std.specs.Prelude.{◌≡◌, ◌<◌, true, IfOk, IfSome, codes};
 ghost use Rattle.mx_create.specs.Blocks.{is_known};
 ghost use Rattle.mx_create.specs.Bodies.{is_create_body};
 ghost use Rattle.mx_engine.specs.Asked as asked;
@@ -266,7 +266,7 @@ impl<G: Gate + Drop> Engine<G> {
         ensures within { IfOk result (IsWithin self.now.workers) }
     {
         let writer = self.writer_for(&who.user);
-        match block(alloc, body, &who.user, now, &self.users) {
+        match block(alloc, body, &who.user, now, self.users.users()) {
             Ok(drafts) => Ok(Aim::Write(
                 writer,
                 EventDraft::Block(Creation { drafts }),
@@ -282,7 +282,7 @@ impl<G: Gate + Drop> Engine<G> {
         ensures is { result ≡ room_of (site_of self.now) room.now }
         ensures within { IfSome result (λ r. r.writer < self.now.workers) }
     {
-        match read_room_id(room.as_str(), self.users.server.as_str()) {
+        match read_room_id(room.as_str(), self.users.users().server.as_str()) {
             Some(room) if room.writer < self.workers => Some(room),
             _ => None,
         }
@@ -299,11 +299,7 @@ impl<G: Gate + Drop> Engine<G> {
     fn is_known(&self, user: &Text) -> bool
         ensures { result ≡ is_known self.now.users user.now }
     {
-        self.users
-            .users
-            .as_slice()
-            .iter()
-            .any(|id| id.as_text() == user)
+        self.users.user(user).is_some()
     }
 
     /// The writer of a user's receipts, account data and new rooms. Takes no memory.
@@ -311,16 +307,9 @@ impl<G: Gate + Drop> Engine<G> {
         ensures is { result ≡ writer_for (site_of self.now) user.now }
         ensures within { result < self.now.workers }
     {
-        let number = number_of(self.users.users.as_slice(), user).unwrap_or(0);
-        (number % usize::from(self.workers)) as u8
+        let number = self.users.user(user.as_text()).unwrap_or(0);
+        (number % u32::from(self.workers)) as u8
     }
-}
-
-/// The number of a user.
-fn number_of(users: &[UserId], user: &UserId) -> Option<usize>
-    ensures { result ≡ position (λ id. bytes_eq id user.now) users.now }
-{
-    users.iter().position(|id| *id == *user)
 }
 
 /// Whether a content has the membership `invite`.
@@ -357,7 +346,6 @@ fn member_event(
 }
 
 /// The user id that a text is, if it is one.
-
 fn user_if(alloc: Global, user: &Text) -> Result<Option<UserId>, Memory>
     ensures { IfOk result (λ id. id ≡ user_if user.now) }
 {

@@ -1,6 +1,7 @@
 //! The start of an engine.
 
 ghost use Rattle.std.specs.Prelude.{◌≡◌, ◌≤◌, [], IfOk};
+ghost use Rattle.mx_front.specs.Shown.{place_of, place_of_pass, seen_by, stop_of, writers_of};
 ghost use Rattle.mx_writers.specs.Start.{AreFreshFolds};
 ghost use Rattle.mx_engine.specs.Answers.{nothing};
 ghost use Rattle.mx_engine.specs.Shown.{Ties, lists_of, site_of, stops_of};
@@ -10,16 +11,17 @@ use crate::events::Rooms;
 use crate::held::{Engine, EnginePass};
 use crate::receipts::Receipts;
 use crate::shelf::Shelf;
-use mx_front::stream;
-use mx_ids::{Memory, Seq, Users};
+use mx_front::{Pass, stream};
+use mx_ids::{Memory, Seq};
 use mx_room::book;
-use mx_writers::{Gate, writers};
+use mx_users::Directory;
+use mx_writers::{Folds, Gate, Writers, writers};
 use std::alloc::Global;
 
 /// What an engine is made of.
 #[derive(Drop)]
 pub struct Setup {
-    pub users: Users,
+    pub users: Directory,
     /// The number of writers of each stream, 1 to 16.
     pub workers: u8,
     /// No block of a stream is drawn once this many positions were, at most 281,474,976,694,272.
@@ -44,12 +46,9 @@ pub fn engine<G: Gate + Drop>(
         workers,
         stop,
     } = setup;
-    let (events, event_pens, event_pass) = stream(alloc, workers, stop)?;
-    let events = writers(alloc, events, event_pens, all_rooms(alloc, workers)?)?;
-    let (receipts, receipt_pens, receipt_pass) = stream(alloc, workers, stop)?;
-    let receipts = writers(alloc, receipts, receipt_pens, all_receipts(alloc, workers)?)?;
-    let (accounts, account_pens, account_pass) = stream(alloc, workers, stop)?;
-    let accounts = writers(alloc, accounts, account_pens, all_accounts(alloc, workers)?)?;
+    let (events, event_pass) = started(alloc, workers, stop, all_rooms(alloc, workers)?)?;
+    let (receipts, receipt_pass) = started(alloc, workers, stop, all_receipts(alloc, workers)?)?;
+    let (accounts, account_pass) = started(alloc, workers, stop, all_accounts(alloc, workers)?)?;
     Ok((
         Engine {
             users,
@@ -65,6 +64,24 @@ pub fn engine<G: Gate + Drop>(
             accounts: account_pass,
         },
     ))
+}
+
+/// A stream with its writers, and a pass of it that has seen nothing.
+fn started<F: Folds>(
+    alloc: Global,
+    workers: u8,
+    stop: u64,
+    folds: Seq<F>,
+) -> Result<(Writers<F>, Pass<F::Item>), Memory>
+    requires workers { (1 ≤ workers) × (workers ≤ 16) }
+    requires stop { stop ≤ 281474976694272 }
+    requires folds { AreFreshFolds F.writer F.own workers folds }
+    ensures place { IfOk result (λ r. place_of_pass r.1 ≡ place_of r.0.stream) }
+    ensures key { IfOk result (λ r. (writers_of r.0.stream ≡ workers) × (stop_of r.0.stream ≡ stop)) }
+    ensures nothing { IfOk result (λ r. seen_by r.1 ≡ []) }
+{
+    let (stream, pens, pass) = stream(alloc, workers, stop)?;
+    Ok((writers(alloc, stream, pens, folds)?, pass))
 }
 
 fn all_rooms(alloc: Global, workers: u8) -> Result<Seq<Rooms>, Memory>

@@ -6,15 +6,18 @@ ghost use Rattle.mx_engine.specs.Shown.{IsAsk, Ties};
 use mx_create::wrong_field;
 use mx_engine::{Ask, Engine, EnginePass, Refusal, Said, Setup, Who, engine};
 use mx_event::Txn;
-use mx_ids::{Device, Memory, Seq, Text, UserId, Users, user_id};
+use mx_ids::{Memory, Seq, Text, UserId, user_id};
 use mx_json::{Json, read};
+use mx_users::{Directory, read_users};
 use mx_writers::Open;
 use std::alloc::Global;
 use std::process::Abort;
 use std::sync::Wait;
 use std::test::Fail;
 
-fn text(rt: &impl Abort, alloc: Global, s: &str) -> Text {
+fn text(rt: &impl Abort, alloc: Global, s: &str) -> Text
+    ensures { result ≡ s.now }
+{
     Text::from_string(String::from_str(alloc, s).expect(rt, "memory"))
 }
 
@@ -28,23 +31,9 @@ fn json(rt: &impl Abort, alloc: Global, s: &str) -> Json {
 }
 
 /// Alice, Bob and Carol of the server `x`.
-fn users(rt: &impl Abort, alloc: Global) -> Users {
-    let mut users = Seq::new(alloc);
-    for name in ["alice", "bob", "carol"] {
-        users.push(user(rt, alloc, name)).expect(rt, "memory");
-    }
-    let mut devices = Seq::new(alloc);
-    let device = Device {
-        user: 0,
-        name: text(rt, alloc, "A1"),
-        token: text(rt, alloc, "tok_a1"),
-    };
-    devices.push(device).expect(rt, "memory");
-    Users {
-        server: text(rt, alloc, "x"),
-        users,
-        devices,
-    }
+fn users(rt: &impl Abort, alloc: Global) -> Directory {
+    let file = "server x\nalice A1 tok_a1\nbob B1 tok_b1\ncarol C1 tok_c1\n";
+    read_users(alloc, file.as_bytes()).expect(rt, "a users file")
 }
 
 /// What is said, as a number: a position, 0 where it was done, 1,000 more than the number of a rule that refuses, 404 where
@@ -118,6 +107,9 @@ fn send(
 {
     let mut path = Seq::new(alloc);
     path.push(text(rt, alloc, room)).expect(rt, "memory");
+    path.push(text(rt, alloc, "send")).expect(rt, "memory");
+    path.push(text(rt, alloc, "m.room.message"))
+        .expect(rt, "memory");
     let ask = Ask::Send {
         room: text(rt, alloc, room),
         kind: text(rt, alloc, "m.room.message"),
