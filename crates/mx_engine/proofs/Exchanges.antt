@@ -24,21 +24,21 @@ module _ (site : Site) (stops : Stops) where
   within all before (r ∷ rs) [] h = absurd h
   within all before [] (a ∷ ans) h = absurd h
 
-  kept_first : (all more : Lists) → AllBegin all more → (n : Counts) → AtMost n (counts_of all) → first_of all n ≡ first_of more n
+  pub kept_first : (all more : Lists) → AllBegin all more → (n : Counts) → AtMost n (counts_of all) → first_of all n ≡ first_of more n
   kept_first all more b n l = λ i. record {
     events = sym (first_kept n.events all.events more.events b.events l.events) i;
     receipts = sym (first_kept n.receipts all.receipts more.receipts b.receipts l.receipts) i;
     accounts = sym (first_kept n.accounts all.accounts more.accounts b.accounts l.accounts) i;
   }
 
-  at_exit : (all : Lists) → first_of all (counts_of all) ≡ all
+  pub at_exit : (all : Lists) → first_of all (counts_of all) ≡ all
   at_exit all = λ i. record {
     events = take_all (length all.events) all.events (omega arith) i;
     receipts = take_all (length all.receipts) all.receipts (omega arith) i;
     accounts = take_all (length all.accounts) all.accounts (omega arith) i;
   }
 
-  longer : (xs ys : Lists) → AllBegin xs ys → AtMost (counts_of xs) (counts_of ys)
+  pub longer : (xs ys : Lists) → AllBegin xs ys → AtMost (counts_of xs) (counts_of ys)
   longer xs ys b = record {
     events = omega (arith, ap length b.events.1, length-append xs.events b.events.0);
     receipts = omega (arith, ap length b.receipts.1, length-append xs.receipts b.receipts.0);

@@ -22,8 +22,8 @@ impl EnginePass {
         }
     }
 
-    /// The mark of an answer that writes nothing.
-    pub(crate) fn mark(&self, now: u64) -> Mark
+    /// The mark of an answer that writes nothing and looks at no stream. Takes no memory.
+    pub fn mark(&self, now: u64) -> Mark
         ensures { result ≡ reading now (lists_of self.now) }
     {
         Mark {

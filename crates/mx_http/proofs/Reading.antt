@@ -1,5 +1,5 @@
 -- What a reader's calls do to what is ahead of it.
-use Rattle.std.proofs.Common.{◌≡◌, ℕ, ◌+◌, ◌-◌, ◌<◌, ◌≤◌, inr, Option, Some, None, Ok, Err, IsErrOf, List, ◌++◌, length, take, drop, slice_range, refl, sym, ap, subst, ◌∙◌, arith, append_assoc, length-append, take-append-drop}
+use Rattle.std.proofs.Common.{◌≡◌, ℕ, ◌+◌, ◌-◌, ◌<◌, ◌≤◌, inl, inr, Option, Some, None, Ok, Err, IsErrOf, List, ◌++◌, length, take, drop, slice_range, refl, sym, ap, subst, ◌∙◌, arith, append_assoc, length-append, take-append-drop}
 use Rattle.std.specs.Io.KnownBytes.{prepend_known, Consumes, Keeps, IsAtEnd}
 use Rattle.std.proofs.lemmas.List.{length-take-le}
 use Rattle.std.proofs.Math.Seq.{take-append-add, drop-append_seam}
@@ -47,11 +47,11 @@ body_cut held parts x short = (
 
 pub body_failed : (first new left : Option (List ℕ)) (held : List ℕ) (parts : Head) (e : HttpFault) → Keeps first new → HasParts held parts
     → (IsErrOf {T = Unit {0}} (Err e) faults.Head → ⊥) → (IsErrOf {T = Unit {0}} (Err e) faults.Cut → (length held < parts.len + parts.size) × IsAtEnd left)
-    → Reads first new held left (Err e)
-body_failed first new left held parts faults.Head p x a b = absurd (a refl)
-body_failed first new left held parts faults.Cut p x a b = let cut = b refl in let short = body_cut held parts x cut.0 in (p, short.0, short.1, cut.1)
-body_failed first new left held parts faults.ReadFault p x a b = p
-body_failed first new left held parts faults.Memory p x a b = p
+    → (IsErrOf {T = Unit {0}} (Err e) faults.ReadFault → length held < parts.len + parts.size) → Reads first new held left (Err e)
+body_failed first new left held parts faults.Head p x a b f = absurd (a refl)
+body_failed first new left held parts faults.Cut p x a b f = let cut = b refl in let short = body_cut held parts x cut.0 in (p, short.0, short.1, cut.1)
+body_failed first new left held parts faults.ReadFault p x a b f = (p, inr (body_cut held parts x (f refl)).0)
+body_failed first new left held parts faults.Memory p x a b f = p
 
 -- what a request takes
 front_goes : (first left : Option (List ℕ)) (held : List ℕ) (n : ℕ) → Keeps first (prepend_known held left) → Consumes first (prepend_known (drop n held) left) (take n held)

@@ -68,11 +68,11 @@ EndsWith held (Err faults.Head) = ⊥
 EndsWith held (Err faults.ReadFault) = ⊥
 EndsWith held (Err faults.Memory) = ⊥
 
--- a whole head at the front, the end of the source, or a fault
+-- a whole head at the front, the end of the source, or a fault; where the source failed no head is whole
 abbrev pub GivesHead : List ℕ → Option (List ℕ) → Result (Option Head) HttpFault → Type 0
 GivesHead held left (Ok (Some parts)) = HasParts held parts
 GivesHead held left (Ok None) = IsBlank held × IsAtEnd left
 GivesHead held left (Err faults.Head) = IsFaulty held
 GivesHead held left (Err faults.Cut) = IsUnfinished held × (IsBlank held → ⊥) × IsAtEnd left
-GivesHead held left (Err faults.ReadFault) = Unit {0}
+GivesHead held left (Err faults.ReadFault) = IsBlank held ⊎ IsUnfinished held
 GivesHead held left (Err faults.Memory) = Unit {0}

@@ -1,7 +1,8 @@
 //! The bytes that a reader holds.
 ghost use Rattle.std.specs.Prelude.{◌≡◌, ◌-◌, ◌<◌, ◌≤◌, [], length, take, drop, OnOk, IfOk, IsErrOf};
-ghost use Rattle.mx_outside.specs.Causes.{Rose};
+ghost use Rattle.mx_outside.specs.Causes.{CountsFailed, Rose};
 ghost use Rattle.mx_outside.specs.Moves.{FitsRoom, Moves};
+ghost use Rattle.mx_http.specs.Reads.{CountsReadFault};
 ghost use Rattle.mx_http.specs.Window.{Fills};
 
 use crate::fault::HttpFault;
@@ -80,6 +81,7 @@ impl Held {
         requires { length self.old.held < MOST_ROOM }
         ensures fills { Fills (S.left source.old) (S.left source.new) self.old.held self.new.held result }
         ensures count { S.faults source.old ≤ S.faults source.new }
+        ensures counted { CountsReadFault result (S.faults source.old) (S.faults source.new) }
         ensures cause { IsErrOf result HttpFault.ReadFault → Rose (S.faults source.old) (S.faults source.new) }
     {
         self.make_room()?;
@@ -141,6 +143,7 @@ fn take_behind<S: Source>(source: &mut S, bytes: &mut [u8], end: usize) -> Took
     ensures moves { Moves (S.left source.old) (S.left source.new) result (drop end bytes.new) }
     ensures room { FitsRoom result (length bytes.old - end) }
     ensures count { S.faults source.old ≤ S.faults source.new }
+    ensures counted { CountsFailed result (S.faults source.old) (S.faults source.new) }
     ensures cause { result ≡ Took.Failed → Rose (S.faults source.old) (S.faults source.new) }
 {
     source.take(&mut bytes[end..])

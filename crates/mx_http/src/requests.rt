@@ -2,7 +2,7 @@
 ghost use Rattle.std.specs.Prelude.{◌≡◌, ◌↔◌, ◌⊎◌, true, false, ◌<◌, ◌≤◌, ◌++◌, ℕ, List, [], length, drop, slice_range, IfOk, OnOk, OnErr, IsErrOf, IsTrue};
 ghost use Rattle.std.specs.Io.KnownBytes.{prepend_known, Keeps, IsAtEnd};
 ghost use Rattle.mx_outside.specs.Causes.{Rose};
-ghost use Rattle.mx_http.specs.Reads.{Reads};
+ghost use Rattle.mx_http.specs.Reads.{CountsReadFault, Reads};
 ghost use Rattle.mx_http.specs.Calls.{IsBlank, IsOpenHead};
 ghost use Rattle.mx_http.specs.Parts.{AreLineEnds, EndsWith, FindsHead, GivesHead};
 
@@ -56,8 +56,8 @@ impl Reader {
     ///
     /// A head has at most 16,384 bytes and 64 field lines, and a body at most 1,048,576 bytes.
     /// `Head` comes where the bytes are no request, whatever follows; `Cut` where the source ended
-    /// inside a request; `ReadFault` only where the source failed; `Memory` where memory was
-    /// refused. After an error the reader isn't used again.
+    /// inside a request; `ReadFault` exactly where the source failed, and then no request is held whole;
+    /// `Memory` where memory was refused. After an error the reader isn't used again.
     pub fn next_request<S: Source>(
         &mut self,
         alloc: Global,
@@ -65,6 +65,7 @@ impl Reader {
     ) -> Result<Option<Call>, HttpFault>
         ensures reads { Reads (prepend_known self.old (S.left source.old)) (prepend_known self.new (S.left source.new)) self.new (S.left source.new) result }
         ensures count { S.faults source.old ≤ S.faults source.new }
+        ensures counted { CountsReadFault result (S.faults source.old) (S.faults source.new) }
         ensures cause { IsErrOf result HttpFault.ReadFault → Rose (S.faults source.old) (S.faults source.new) }
     {
         let Some(head) = self.fill_head(alloc, source)? else {
@@ -85,6 +86,7 @@ impl Reader {
         ensures kept { Keeps (prepend_known self.old (S.left source.old)) (prepend_known self.new (S.left source.new)) }
         ensures gives { GivesHead self.new (S.left source.new) result }
         ensures count { S.faults source.old ≤ S.faults source.new }
+        ensures counted { CountsReadFault result (S.faults source.old) (S.faults source.new) }
         ensures cause { IsErrOf result HttpFault.ReadFault → Rose (S.faults source.old) (S.faults source.new) }
     {
         'more: loop {
@@ -104,8 +106,10 @@ impl Reader {
         ensures grown { (more : List ℕ) × (self.new ≡ self.old ++ more) }
         ensures whole { OnOk result (whole ≤ length self.new) }
         ensures cut { IsErrOf result HttpFault.Cut → (length self.new < whole) × IsAtEnd (S.left source.new) }
+        ensures failed { IsErrOf result HttpFault.ReadFault → length self.new < whole }
         ensures none { IsErrOf result HttpFault.Head → ⊥ }
         ensures count { S.faults source.old ≤ S.faults source.new }
+        ensures counted { CountsReadFault result (S.faults source.old) (S.faults source.new) }
         ensures cause { IsErrOf result HttpFault.ReadFault → Rose (S.faults source.old) (S.faults source.new) }
     {
         'more: while self.held.len() < whole {
@@ -123,8 +127,10 @@ impl Reader {
         ensures grown { (more : List ℕ) × (self.new ≡ self.old ++ more) }
         ensures longer { IfOk result (λ some. some ≡ true → length self.old < length self.new) }
         ensures ended { IfOk result (λ some. some ≡ false → (self.new ≡ self.old) × IsAtEnd (S.left source.new)) }
+        ensures same { OnErr result (self.new ≡ self.old) }
         ensures faults { (IsErrOf result HttpFault.Head → ⊥) × (IsErrOf result HttpFault.Cut → ⊥) }
         ensures count { S.faults source.old ≤ S.faults source.new }
+        ensures counted { CountsReadFault result (S.faults source.old) (S.faults source.new) }
         ensures cause { IsErrOf result HttpFault.ReadFault → Rose (S.faults source.old) (S.faults source.new) }
     {
         self.held.fill(source)

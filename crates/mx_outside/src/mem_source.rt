@@ -1,6 +1,6 @@
 //! A source in memory.
 ghost use Rattle.std.specs.Prelude.{◌≡◌, ◌<◌, ◌≤◌, drop, take, length, vec_len, Some};
-ghost use Rattle.mx_outside.specs.Causes.{Rose};
+ghost use Rattle.mx_outside.specs.Causes.{CountsFailed, Rose};
 ghost use Rattle.mx_outside.specs.Moves.{FitsRoom, Moves};
 ghost use Rattle.mx_outside.specs.Calls.{SourceState, called, fresh, is_failing, taken};
 
@@ -52,6 +52,7 @@ impl Source for MemSource {
         ensures room { FitsRoom result (length into.old) }
         ensures bytes { Moves (Some self.old.left) (Some self.new.left) result into.new }
         ensures count { self.old.plan.faults ≤ self.new.plan.faults }
+        ensures counted { CountsFailed result self.old.plan.faults self.new.plan.faults }
         ensures cause { result ≡ Took.Failed → Rose self.old.plan.faults self.new.plan.faults }
         ensures plan { self.new.plan ≡ called (is_failing self.old.plan) self.old.plan }
         ensures piece { self.new.piece ≡ self.old.piece }

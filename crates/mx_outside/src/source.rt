@@ -1,7 +1,7 @@
 //! A source of bytes.
 ghost use Rattle.std.specs.Prelude.{◌≡◌, ℕ, ◌<◌, ◌≤◌, List, length};
 ghost use Rattle.std.specs.declared.option.Option.{Option};
-ghost use Rattle.mx_outside.specs.Causes.{Rose};
+ghost use Rattle.mx_outside.specs.Causes.{CountsFailed, Rose};
 ghost use Rattle.mx_outside.specs.Moves.{FitsRoom, Moves};
 
 /// The answer of [`Source::take`].
@@ -20,7 +20,7 @@ pub trait Source {
     /// The bytes that are left, where the source tells them.
     ghost left: { Self → Option (List ℕ) };
 
-    /// The faults so far, a count that never falls. It may stop at 2^64 - 1.
+    /// The failed takes so far, a count that never falls. It may stop at 2^64 - 1.
     ghost faults: { Self → ℕ };
 
     /// Moves bytes to the front of `into`, which must have room for one: at least one and at most
@@ -31,5 +31,6 @@ pub trait Source {
         ensures room { FitsRoom result (length into.old) }
         ensures bytes { Moves (left self.old) (left self.new) result into.new }
         ensures count { faults self.old ≤ faults self.new }
+        ensures counted { CountsFailed result (faults self.old) (faults self.new) }
         ensures cause { result ≡ Took.Failed → Rose (faults self.old) (faults self.new) };
 }

@@ -1,4 +1,4 @@
-use Rattle.std.proofs.Common.{◌≡◌, ◌-◌, ◌≤◌, ℕ, List, ◌++◌, length}
+use Rattle.std.proofs.Common.{◌≡◌, ◌-◌, ℕ, List, ◌++◌, length}
 use Rattle.std.specs.Io.KnownBytes.{prepend_known, Keeps}
 use Rattle.mx_http.proofs.requests.Reader.fill_to.Given as goal
 
@@ -6,7 +6,7 @@ abbrev pub invariant-more : goal.invariant-more
 invariant-more g l = record {
   kept : Keeps (prepend_known l.initial.self (g.S.Source.left l.initial.source)) (prepend_known l.self (g.S.Source.left l.source));
   grown : (more : List ℕ) × (l.self ≡ l.initial.self ++ more);
-  count : g.S.Source.faults l.initial.source ≤ g.S.Source.faults l.source;
+  counted : g.S.Source.faults l.source ≡ g.S.Source.faults l.initial.source;
 }
 
 abbrev pub decreases-more : goal.decreases-more

@@ -1,0 +1,84 @@
+//! What calls on rooms ask.
+use crate::make::{at, call, json, list, users};
+use crate::told::is_told;
+use mx_api_room::{RoomRoutes, ask_room, room_routes};
+use mx_json::Json;
+use mx_users::Directory;
+use std::alloc::Global;
+use std::process::Abort;
+
+fn asks(
+    rt: &impl Abort,
+    alloc: Global,
+    routes: &RoomRoutes,
+    users: &Directory,
+    row: &Json,
+) -> bool {
+    let call = call(rt, alloc, row);
+    let asked = ask_room(alloc, routes, &call, users).expect(rt, "memory");
+    is_told(rt, alloc, at(rt, row, 4), &asked)
+}
+
+#[test]
+fn the_first_refusal_is_told_in_order(rt: HostRuntime) {
+    let rows = json(
+        &rt,
+        rt.alloc(),
+        r#"[
+        ["POST", "/rooms", "secret", "", null],
+        ["POST", "/rooms//join", "secret", "", null],
+        ["PUT", "/rooms/r/state//k", "secret", "{}", null],
+        ["GET", "/createRoom", null, "", [405, "M_UNRECOGNIZED", "no such method"]],
+        ["POST", "/rooms/%FF/state/a", null, "", [405, "M_UNRECOGNIZED", "no such method"]],
+        ["POST", "/rooms/%FF/join", null, "", [401, "M_MISSING_TOKEN", "missing token"]],
+        ["POST", "/rooms/%FF/join", "nobody", "", [401, "M_UNKNOWN_TOKEN", "unknown token"]],
+        ["POST", "/rooms/%FF/join", "secret", "x", [400, "M_INVALID_PARAM", "invalid parameter: path"]],
+        ["PUT", "/rooms/r/send/a/%C3", "secret", "x", [400, "M_INVALID_PARAM", "invalid parameter: path"]],
+        ["POST", "/createRoom", "secret", "x", [400, "M_NOT_JSON", "not JSON"]],
+        ["PUT", "/rooms/r/send/a/t", "secret", "", [400, "M_NOT_JSON", "not JSON"]],
+        ["PUT", "/rooms/r/state/a", "secret", "1.5", [400, "M_BAD_JSON", "bad JSON: fraction"]],
+        ["PUT", "/rooms/r/redact/e/t", "secret", "9007199254740992", [400, "M_BAD_JSON", "bad JSON: integer out of range"]],
+        ["PUT", "/rooms/r/state/a/k", "secret", "[]", [400, "M_BAD_JSON", "bad JSON: body"]],
+        ["POST", "/createRoom", "secret", "[]", [400, "M_BAD_JSON", "bad JSON: body"]],
+        ["POST", "/createRoom", "secret", "{\"invite\":1,\"initial_state\":1}", [400, "M_BAD_JSON", "bad JSON: initial_state"]],
+        ["POST", "/createRoom", "secret", "{\"invite\":[1]}", [400, "M_BAD_JSON", "bad JSON: invite"]],
+        ["POST", "/rooms/r/leave", "secret", "1", [400, "M_BAD_JSON", "bad JSON: body"]],
+        ["POST", "/rooms/r/invite", "secret", "", [400, "M_BAD_JSON", "bad JSON: user_id"]],
+        ["POST", "/rooms/r/ban", "secret", "{\"user_id\":1}", [400, "M_BAD_JSON", "bad JSON: user_id"]]
+    ]"#,
+    );
+    let users = users(&rt, rt.alloc());
+    let routes = room_routes(rt.alloc()).expect(&rt, "routes");
+    for row in list(&rt, &rows) {
+        assert!(&rt; asks(&rt, rt.alloc(), &routes, &users, row));
+    }
+}
+
+#[test]
+fn a_call_on_a_room_asks(rt: HostRuntime) {
+    let rows = json(
+        &rt,
+        rt.alloc(),
+        r#"[
+        ["POST", "/createRoom", "secret", "", ["create", "none"]],
+        ["POST", "/createRoom", "secret", "{\"body\":\"b\"}", ["create", "b"]],
+        ["PUT", "/rooms/%21r/send/m.room.message/t%2F1", "secret", "{\"body\":\"b\"}", ["send", "!r", "m.room.message", "t/1", "!r", "send", "m.room.message", "b"]],
+        ["PUT", "/rooms/r/redact/%24e/t", "secret", "{\"reason\":\"why\"}", ["redact", "r", "$e", "t", "r", "redact", "$e", "why"]],
+        ["PUT", "/rooms/r/state/a/k", "secret", "{\"body\":\"b\"}", ["state", "r", "a", "k", "b"]],
+        ["PUT", "/rooms/r/state/a/", "secret", "{}", ["state", "r", "a", "", "none"]],
+        ["PUT", "/rooms/r/state/a", "secret", "{}", ["state", "r", "a", "", "none"]],
+        ["POST", "/join/r", "secret", "", ["join", "r", "none"]],
+        ["POST", "/rooms/r/join", "secret", "{\"reason\":\"why\"}", ["join", "r", "why"]],
+        ["POST", "/rooms/r/leave", "secret", "{\"reason\":1}", ["leave", "r", "none"]],
+        ["POST", "/rooms/r/invite", "secret", "{\"user_id\":\"@b:x\"}", ["invite", "r", "@b:x", "none"]],
+        ["POST", "/rooms/r/kick", "secret", "{\"user_id\":\"@b:x\",\"reason\":\"why\"}", ["kick", "r", "@b:x", "why"]],
+        ["POST", "/rooms/r/ban", "secret", "{\"user_id\":\"@b:x\"}", ["ban", "r", "@b:x", "none"]],
+        ["POST", "/rooms/r/unban", "secret", "{\"user_id\":\"@b:x\"}", ["unban", "r", "@b:x", "none"]]
+    ]"#,
+    );
+    let users = users(&rt, rt.alloc());
+    let routes = room_routes(rt.alloc()).expect(&rt, "routes");
+    for row in list(&rt, &rows) {
+        assert!(&rt; asks(&rt, rt.alloc(), &routes, &users, row));
+    }
+}
