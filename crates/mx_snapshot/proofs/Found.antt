@@ -165,7 +165,7 @@ module _ {I : Type 0} (at : I → ℕ) where
       let positive : nat_lt 0 (at x) ≡ true = lt-ltb 0 (at x) (omega (arith, above)) in
       (ap (λ b. b && nat_le (at x) last) (sym positive), all_positive (at x) last xs rises.1)
 
-  length_positions : (xs : List I) → length (map at xs) ≡ length xs
+  pub length_positions : (xs : List I) → length (map at xs) ≡ length xs
   length_positions [] = refl
   length_positions (x ∷ xs) = ap suc (length_positions xs)
 

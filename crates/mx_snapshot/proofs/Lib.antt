@@ -3,6 +3,7 @@ mod RoomKeys
 mod Empty
 mod Found
 mod Counted
+mod Halving
 mod Lasting
 mod Grown
 mod Looked

@@ -1,5 +1,5 @@
 -- Events that the index finds.
-use Rattle.std.proofs.Common.{◌≡◌, ℕ, Bool, true, false, cond, ◌&&◌, List, [], ◌∷◌, ◌++◌, Option, Some, None, map, fold, option_map, nat_le, nat_lt, unwrap_or, Ordering, Less, Equal, Greater, refl, sym, ap, ap₂, ◌∙◌}
+use Rattle.std.proofs.Common.{◌≡◌, ℕ, ◌≤◌, ◌*◌, ◌+◌, Bool, true, false, cond, ◌&&◌, length, List, [], ◌∷◌, ◌++◌, Option, Some, None, map, fold, option_map, nat_le, nat_lt, unwrap_or, Ordering, Less, Equal, Greater, refl, sym, subst, ap, ap₂, ◌∙◌}
 use Rattle.std.specs.List.{AllByRecursion}
 use Rattle.std.specs.BTreeMap.{insert_entry}
 use Rattle.std.specs.Ordering.{match_ordering}
@@ -14,7 +14,7 @@ use Rattle.mx_event.specs.declared.event.Event.{Event}
 use Rattle.mx_snapshot.specs.Events.{versions, is_version, first_redaction, redacts, is_own, with_own, rooms_of, place_of}
 use Rattle.mx_snapshot.specs.Lists.{room_cmp}
 use Rattle.mx_snapshot.specs.Looks.{at_position, own_looked, with_room}
-use Rattle.mx_snapshot.proofs.Found.{Found, all_found, in_position, last_among, last_same, test_last}
+use Rattle.mx_snapshot.proofs.Found.{Found, all_found, in_position, last_among, last_same, length_positions, test_last}
 
 and_swap : (a b c : Bool) → (a && (b && c)) ≡ (b && (a && c))
 and_swap true b c = refl
@@ -85,3 +85,7 @@ own_is es user entries placed is = ap (own_looked es) is ∙ own_looked_is es (r
 pub no_rooms : (rs : List (RoomId × Event)) → [] ≡ map place_of rs → [] ≡ rs
 no_rooms [] is = refl
 no_rooms (r ∷ rs) is = absurd cc
+
+-- what is bounded by the number of positions is bounded by that of the events
+pub few_steps : (n : ℕ) (ps : List ℕ) (xs ys : List Event) → ps ≡ map position_of xs → xs ≡ ys → n ≤ 2 * length ps + 1 → n ≤ 2 * length ys + 1
+few_steps n ps xs ys is same few = subst (λ k. n ≤ 2 * k + 1) (ap length is ∙ length_positions position_of xs ∙ ap length same) few

@@ -14,6 +14,7 @@ use crate::account_index::AccountIndex;
 use crate::gather::gather;
 use crate::looks::{key_positions, kind_positions, version_positions};
 use crate::positions::{last_one, last_to, within};
+use crate::steps::Steps;
 use mx_account::Entry;
 use mx_ids::{Memory, RoomId};
 use mx_lanes::Parts;
@@ -126,7 +127,8 @@ impl Accounts {
         ensures { option_copied result ≡ last_of (is_data_of user.now (Some room.now) kind.now) (between position_of 0 last self.now) }
     {
         let positions = version_positions(&self.index.rooms, room, user, kind);
-        let position = last_to(positions, last)?;
+        let mut steps = Steps::new();
+        let position = last_to(positions, last, &mut steps)?;
         self.entries.at(position)
     }
 
@@ -134,7 +136,8 @@ impl Accounts {
         ensures { option_copied result ≡ last_of (is_data_of user.now None kind.now) (between position_of 0 last self.now) }
     {
         let positions = kind_positions(&self.index.global, user, kind);
-        let position = last_to(positions, last)?;
+        let mut steps = Steps::new();
+        let position = last_to(positions, last, &mut steps)?;
         self.entries.at(position)
     }
 }

@@ -1,6 +1,6 @@
 //! The events of a stream up to its front.
 
-ghost use Rattle.std.specs.Prelude.{◌≡◌, ◌≤◌, ◌<◌, ◌+◌, [], option_map, ◌++◌, true, length, map, take, nat_le, IfOk, OnOk};
+ghost use Rattle.std.specs.Prelude.{◌*◌, ◌-◌, ◌^◌, ◌≡◌, ◌≤◌, ◌<◌, ◌+◌, [], option_map, ◌++◌, true, length, map, take, nat_le, IfOk, OnOk};
 ghost use Rattle.std.specs.Option.{option_copied, option_to_list};
 ghost use Rattle.mx_core.specs.History.{Begins};
 ghost use Rattle.mx_window.specs.Lasts.{keep_if, last, last_of};
@@ -16,6 +16,7 @@ use crate::event_index::EventIndex;
 use crate::gather::gather;
 use crate::looks::{room_positions, version_positions};
 use crate::positions::{ending, last_one, last_to, within};
+use crate::steps::Steps;
 use mx_event::Event;
 use mx_ids::{Memory, RoomId};
 use mx_lanes::Parts;
@@ -184,8 +185,25 @@ impl Events {
     pub fn last_of(&self, room: &RoomId, kind: &str, key: &str, last: u64) -> Option<&Event>
         ensures { option_copied result ≡ last_of (has_key kind.now key.now) (between position_of 0 last (of_room room.now self.now)) }
     {
+        let mut steps = Steps::new();
+        self.last_of_counted(room, kind, key, last, &mut steps)
+    }
+
+    /// The same, with the comparisons of positions counted: no more than there are binary digits in the number of versions.
+    pub fn last_of_counted(
+        &self,
+        room: &RoomId,
+        kind: &str,
+        key: &str,
+        last: u64,
+        steps: &mut Steps,
+    ) -> Option<&Event>
+        ensures found { option_copied result ≡ last_of (has_key kind.now key.now) (between position_of 0 last (of_room room.now self.now)) }
+        ensures more { steps.old ≤ steps.new }
+        ensures cost { 2 ^ (steps.new - steps.old) ≤ 2 * length (versions room.now kind.now key.now self.now) + 1 }
+    {
         let positions = version_positions(&self.index.versions, room, kind, key);
-        let position = last_to(positions, last)?;
+        let position = last_to(positions, last, steps)?;
         self.events.at(position)
     }
 

@@ -14,9 +14,11 @@ mod named;
 mod positions;
 mod receipts;
 mod snapshot;
+mod steps;
 
 pub use accounts::Accounts;
 pub use events::Events;
 pub use laws::{first_redactions_are, snapshots_cross_threads};
 pub use receipts::Receipts;
 pub use snapshot::Snapshot;
+pub use steps::Steps;

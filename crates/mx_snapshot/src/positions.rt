@@ -1,19 +1,33 @@
 //! Positions in rising order.
 
-ghost use Rattle.std.specs.Prelude.{◌≡◌, ◌≤◌, ◌&&◌, ℕ, length, take, drop, filter, nat_le, nat_lt};
+ghost use Rattle.std.specs.Prelude.{◌*◌, ◌+◌, ◌-◌, ◌^◌, ◌≡◌, ◌≤◌, ◌&&◌, ℕ, length, take, drop, filter, nat_le, nat_lt};
 ghost use Rattle.std.specs.List.Sorted.{IsNonDecreasingBy};
 ghost use Rattle.mx_snapshot.specs.Lists.{always, itself};
 ghost use Rattle.mx_window.specs.Lasts.{last, last_of};
 ghost use Rattle.mx_snapshot.specs.Looks.{last_position};
 
-/// How many of some rising positions are at most a position. Logarithmic in their number.
-pub(crate) fn count_to(positions: &[u64], last: u64) -> usize
+use crate::steps::Steps;
+
+/// How many of some rising positions are at most a position. Compares one of them for each binary digit of their number.
+pub(crate) fn count_to(positions: &[u64], last: u64, steps: &mut Steps) -> usize
     requires { IsNonDecreasingBy itself positions.now }
     ensures bound { result ≤ length positions.now }
     ensures front { take result positions.now ≡ filter (λ p. nat_le p last) positions.now }
     ensures back { drop result positions.now ≡ filter (λ p. nat_lt last p) positions.now }
+    ensures more { steps.old ≤ steps.new }
+    ensures cost { 2 ^ (steps.new - steps.old) ≤ 2 * length positions.now + 1 }
 {
-    positions.partition_point(|position| *position <= last)
+    let mut low = 0;
+    let mut high = positions.len();
+    'halves: while low < high {
+        let middle = low + (high - low) / 2;
+        if steps.is_upto(positions[middle], last) {
+            low = middle + 1;
+        } else {
+            high = middle;
+        }
+    }
+    low
 }
 
 /// Those of some rising positions that lie after `low` and up to `high`. Logarithmic in their number.
@@ -21,18 +35,21 @@ pub(crate) fn within(positions: &[u64], low: u64, high: u64) -> &[u64]
     requires { IsNonDecreasingBy itself positions.now }
     ensures { result.now ≡ filter (λ p. nat_le p high) (filter (λ p. nat_lt low p) positions.now) }
 {
-    let from = count_to(positions, low);
+    let mut steps = Steps::new();
+    let from = count_to(positions, low, &mut steps);
     let rest = &positions[from..];
-    let count = count_to(rest, high);
+    let count = count_to(rest, high, &mut steps);
     &rest[..count]
 }
 
-/// The last of some rising positions that is at most a position. Logarithmic in their number.
-pub(crate) fn last_to(positions: &[u64], last: u64) -> Option<u64>
+/// The last of some rising positions that is at most a position. Compares one of them for each binary digit of their number.
+pub(crate) fn last_to(positions: &[u64], last: u64, steps: &mut Steps) -> Option<u64>
     requires { IsNonDecreasingBy itself positions.now }
-    ensures { result ≡ last_of (λ p. nat_le p last) positions.now }
+    ensures found { result ≡ last_of (λ p. nat_le p last) positions.now }
+    ensures more { steps.old ≤ steps.new }
+    ensures cost { 2 ^ (steps.new - steps.old) ≤ 2 * length positions.now + 1 }
 {
-    let count = count_to(positions, last);
+    let count = count_to(positions, last, steps);
     if count == 0 {
         None
     } else {
@@ -45,7 +62,8 @@ pub(crate) fn ending(positions: &[u64], high: u64, most: u64) -> &[u64]
     requires { IsNonDecreasingBy itself positions.now }
     ensures { result.now ≡ last most (filter (λ p. nat_le p high) positions.now) }
 {
-    let count = count_to(positions, high);
+    let mut steps = Steps::new();
+    let count = count_to(positions, high, &mut steps);
     let front = &positions[..count];
     let from = front.len().saturating_sub(most as usize);
     &front[from..]

@@ -1,6 +1,6 @@
 //! The state of a room, by the events that a snapshot has.
 
-ghost use Rattle.std.specs.Prelude.{◌≡◌, List, ℕ, [], ◌∷◌, ◌++◌, filter, nat_lt, IfOk, OnOk};
+ghost use Rattle.std.specs.Prelude.{◌≡◌, List, ℕ, [], ◌∷◌, ◌++◌, filter, nat_lt, IfOk, OnOk, ◌≤◌, ◌*◌, ◌+◌, ◌-◌, ◌^◌, length};
 ghost use Rattle.std.specs.Option.{option_copied};
 ghost use Rattle.mx_window.specs.Windows.{between};
 ghost use Rattle.mx_event.specs.Lawful.{of_room};
@@ -9,26 +9,31 @@ ghost use Rattle.mx_event.specs.State.{standing};
 ghost use Rattle.mx_event.specs.declared.event.Event.{Event};
 ghost use Rattle.mx_folding.specs.Parts.{state_list};
 ghost use Rattle.mx_view.specs.Rooms.{Sieve, room_of};
+ghost use Rattle.mx_snapshot.specs.Events.{versions};
 ghost use Rattle.mx_snapshot.specs.Looks.{all_now};
 ghost use Rattle.mx_state.specs.Standing.{is_at, stands, standing_in};
 
 use mx_event::Event;
 use mx_ids::{Memory, RoomId};
-use mx_snapshot::Events;
+use mx_snapshot::{Events, Steps};
 use std::alloc::Global;
 
 /// The state event that stands under a type and a state key at a position, which may be any: the last one up to it. Takes
-/// the time of a search among its versions, and no memory.
+/// no memory, and the time of a search among the versions of the key. Counts the comparisons of positions: at most one for
+/// each binary digit of the number of versions.
 pub fn state_event<'a>(
     events: &'a Events,
     room: &RoomId,
     kind: &str,
     key: &str,
     position: u64,
+    steps: &mut Steps,
 ) -> Option<&'a Event>
-    ensures { option_copied result ≡ standing kind.now key.now (between position_of 0 position (of_room room.now events.now)) }
+    ensures more { steps.old ≤ steps.new }
+    ensures cost { 2 ^ (steps.new - steps.old) ≤ 2 * length (versions room.now kind.now key.now events.now) + 1 }
+    ensures found { option_copied result ≡ standing kind.now key.now (between position_of 0 position (of_room room.now events.now)) }
 {
-    events.last_of(room, kind, key, position)
+    events.last_of_counted(room, kind, key, position, steps)
 }
 
 /// The state of a room at a position, in order of position. Takes the time of a search for each state event of the room up

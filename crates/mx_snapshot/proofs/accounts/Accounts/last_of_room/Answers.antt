@@ -13,11 +13,11 @@ last_to-requires c = test_rises position_of c.self.inside.entries.items (is_data
 pub returns-in_err-position : goal.returns-in_err-position
 returns-in_err-position c =
     ap option_copied c.from_residual.ensures
-    ∙ last_between position_of c.self.inside.entries.items (is_data_of c.args.user.now (Some c.args.room.now) c.args.kind.now) c.version_positions-positions.result.now c.self.invariant.0 (c.version_positions-positions.ensures ∙ c.self.invariant.1.rooms c.args.room.now c.args.user.now c.args.kind.now) c.args.last None c.in_err-position.ensures
+    ∙ last_between position_of c.self.inside.entries.items (is_data_of c.args.user.now (Some c.args.room.now) c.args.kind.now) c.version_positions-positions.result.now c.self.invariant.0 (c.version_positions-positions.ensures ∙ c.self.invariant.1.rooms c.args.room.now c.args.user.now c.args.kind.now) c.args.last None c.in_err-position.ensures.found
     ∙ ap (λ (l : List Entry). last_of (is_data_of c.args.user.now (Some c.args.room.now) c.args.kind.now) (between position_of 0 c.args.last l)) c.self.view_is
 
 pub returns : goal.returns
 returns c =
     c.at.ensures.item
-    ∙ last_between position_of c.self.inside.entries.items (is_data_of c.args.user.now (Some c.args.room.now) c.args.kind.now) c.version_positions-positions.result.now c.self.invariant.0 (c.version_positions-positions.ensures ∙ c.self.invariant.1.rooms c.args.room.now c.args.user.now c.args.kind.now) c.args.last (Some c.in_ok-position.position) c.in_ok-position.ensures
+    ∙ last_between position_of c.self.inside.entries.items (is_data_of c.args.user.now (Some c.args.room.now) c.args.kind.now) c.version_positions-positions.result.now c.self.invariant.0 (c.version_positions-positions.ensures ∙ c.self.invariant.1.rooms c.args.room.now c.args.user.now c.args.kind.now) c.args.last (Some c.in_ok-position.position) c.in_ok-position.ensures.found
     ∙ ap (λ (l : List Entry). last_of (is_data_of c.args.user.now (Some c.args.room.now) c.args.kind.now) (between position_of 0 c.args.last l)) c.self.view_is
