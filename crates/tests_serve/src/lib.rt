@@ -2,4 +2,12 @@
 #![tactic(auto)]
 
 #[cfg(test)]
+mod make;
+#[cfg(test)]
+mod rooms;
+#[cfg(test)]
 mod runs;
+#[cfg(test)]
+mod sessions;
+#[cfg(test)]
+mod tables;

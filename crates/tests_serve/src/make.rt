@@ -1,0 +1,119 @@
+//! Runs of the program over sources, sinks and files in memory, and the bytes of answers.
+use mx_ids::Memory;
+use mx_outside::{MemFile, MemFiles, MemSink, MemSource, StepClock};
+use mx_serve::run;
+use std::alloc::Global;
+use std::process::Abort;
+use std::sync::Wait;
+
+const USERS: &str = "\nserver example.org\n\nalice A1 tok_a1\nbob B1 tok_b1\ncarol C1 tok_c1";
+
+/// The number of a call that isn't made.
+const NEVER: u64 = 1_000_000;
+
+/// What a run is given.
+#[derive(Clone, Copy)]
+pub struct Case<'a> {
+    pub file: &'a str,
+    pub mode: &'a str,
+    pub users: &'a str,
+    pub input: &'a str,
+    pub piece: usize,
+    pub failing_read: u64,
+    pub failing_write: u64,
+}
+
+/// A run whose words and users file are of their form, where nothing fails.
+pub fn usual_case(input: &str) -> Case {
+    Case {
+        file: "users",
+        mode: "pipe",
+        users: USERS,
+        input,
+        piece: 1000,
+        failing_read: NEVER,
+        failing_write: NEVER,
+    }
+}
+
+/// The words `--users FILE --mode MODE`.
+pub fn words(alloc: Global, file: &str, mode: &str) -> Result<Vec<String>, Memory> {
+    let users = String::from_str(alloc, "--users")?;
+    let file = String::from_str(alloc, file)?;
+    let word = String::from_str(alloc, "--mode")?;
+    let mode = String::from_str(alloc, mode)?;
+    Ok(Vec::from_array(alloc, [users, file, word, mode])?)
+}
+
+pub fn files(alloc: Global, users: &str) -> Result<MemFiles, Memory> {
+    let file = MemFile {
+        name: String::from_str(alloc, "users")?,
+        bytes: Vec::from_slice(alloc, users.as_bytes())?,
+    };
+    Ok(MemFiles::new(Vec::from_array(alloc, [file])?, Vec::new(alloc)))
+}
+
+pub fn source(alloc: Global, case: &Case) -> Result<MemSource, Memory> {
+    let bytes = Vec::from_slice(alloc, case.input.as_bytes())?;
+    let failing = Vec::from_array(alloc, [case.failing_read])?;
+    Ok(MemSource::new(bytes, case.piece.max(1), failing))
+}
+
+pub fn sink(alloc: Global, failing: u64) -> Result<MemSink, Memory> {
+    Ok(MemSink::new(alloc, Vec::from_array(alloc, [failing])?))
+}
+
+/// A run ends with this status, and writes this to the output and to the errors.
+pub fn expect<R: Abort + Wait>(
+    rt: &R,
+    alloc: Global,
+    case: &Case,
+    status: u8,
+    written: &str,
+    told: &str,
+) -> Result<(), Memory> {
+    let words = words(alloc, case.file, case.mode)?;
+    expect_by(rt, alloc, words.as_slice(), case, status, written, told)
+}
+
+/// The same of a run with these words.
+pub fn expect_by<R: Abort + Wait>(
+    rt: &R,
+    alloc: Global,
+    words: &[String],
+    case: &Case,
+    status: u8,
+    written: &str,
+    told: &str,
+) -> Result<(), Memory> {
+    let mut files = files(alloc, case.users)?;
+    let mut input = source(alloc, case)?;
+    let mut output = sink(alloc, case.failing_write)?;
+    let mut errors = sink(alloc, NEVER)?;
+    let mut clock = StepClock::new(1000, 1);
+    let ran = run(
+        rt,
+        alloc,
+        words,
+        &mut files,
+        &mut input,
+        &mut output,
+        &mut errors,
+        &mut clock,
+    );
+    assert_eq!(rt; ran.status.number(), status);
+    assert!(rt; output.written() == written.as_bytes());
+    assert!(rt; errors.written() == told.as_bytes());
+    Ok(())
+}
+
+const HEADERS: &str =
+    "Access-Control-Allow-Origin: *\r\nAccess-Control-Allow-Methods: GET, POST, PUT, DELETE, OPTIONS\r\nAccess-Control-Allow-Headers: X-Requested-With, Content-Type, Authorization\r\n";
+
+/// The bytes of an answer, with what its head ends with.
+pub fn answer(alloc: Global, status: &str, end: &str, body: &str) -> Result<String, Memory> {
+    let size = body.len();
+    Ok(format!(in alloc;
+        "HTTP/1.1 {status}\r\nContent-Type: application/json\r\nContent-Length: {size}\r\n{HEADERS}{end}\r\n{body}"
+    )?)
+}

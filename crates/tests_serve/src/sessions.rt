@@ -1,0 +1,100 @@
+//! Sessions of one connection as tables. A call is a line `METHOD PATH TOKEN BODY`, and the line below it is its answer, `STATUS
+//! BODY`. A path stands under `/_matrix/client/v3`, unless it begins with `/_matrix`; the token `-` is none.
+use crate::make::{Case, answer, expect, usual_case};
+use mx_ids::Memory;
+use std::alloc::Global;
+use std::process::Abort;
+use std::sync::Wait;
+
+/// The requests of a connection, and their answers.
+#[derive(Drop)]
+pub struct Session {
+    pub requests: String,
+    pub answers: String,
+}
+
+/// The session of a table.
+pub fn session(alloc: Global, table: &str) -> Result<Session, Memory> {
+    let mut session = Session {
+        requests: String::new(alloc),
+        answers: String::new(alloc),
+    };
+    'lines: for line in table.split('\n') {
+        match line.as_bytes() {
+            [] => {}
+            [b'0'..=b'9', ..] => add_answer(alloc, &mut session.answers, line)?,
+            _ => add_call(alloc, &mut session.requests, line)?,
+        }
+    }
+    Ok(session)
+}
+
+/// The first word of a line, and what stands behind it.
+fn cut(line: &str) -> (&str, &str) {
+    match line.split_once(' ') {
+        Some(parts) => parts,
+        None => (line, ""),
+    }
+}
+
+fn add_call(alloc: Global, requests: &mut String, line: &str) -> Result<(), Memory> {
+    let (method, rest) = cut(line);
+    let (path, rest) = cut(rest);
+    let (token, body) = cut(rest);
+    let base = if path.starts_with("/_matrix") {
+        ""
+    } else {
+        "/_matrix/client/v3"
+    };
+    let size = body.len();
+    let head = format!(in alloc; "{method} {base}{path} HTTP/1.1\r\nContent-Length: {size}\r\n")?;
+    requests.push_str(head.as_str())?;
+    if token != "-" {
+        let field = format!(in alloc; "Authorization: Bearer {token}\r\n")?;
+        requests.push_str(field.as_str())?;
+    }
+    requests.push_str("\r\n")?;
+    requests.push_str(body)?;
+    Ok(())
+}
+
+fn add_answer(alloc: Global, answers: &mut String, line: &str) -> Result<(), Memory> {
+    let (status, body) = cut(line);
+    let told = answer(alloc, phrase(status), "", body)?;
+    answers.push_str(told.as_str())?;
+    Ok(())
+}
+
+/// A status with its phrase (RFC 9110, section 15).
+fn phrase(status: &str) -> &'static str {
+    match status {
+        "200" => "200 OK",
+        "400" => "400 Bad Request",
+        "401" => "401 Unauthorized",
+        "403" => "403 Forbidden",
+        "404" => "404 Not Found",
+        "405" => "405 Method Not Allowed",
+        "413" => "413 Payload Too Large",
+        _ => "500 Internal Server Error",
+    }
+}
+
+/// A run is asked the calls of a table, in pieces of so many bytes, and writes its answers.
+pub fn holds_by<R: Abort + Wait>(
+    rt: &R,
+    alloc: Global,
+    table: &str,
+    piece: usize,
+) -> Result<(), Memory> {
+    let session = session(alloc, table)?;
+    let case = Case {
+        piece,
+        ..usual_case(session.requests.as_str())
+    };
+    expect(rt, alloc, &case, 0, session.answers.as_str(), "")
+}
+
+/// A run is asked the calls of a table, and writes its answers.
+pub fn holds<R: Abort + Wait>(rt: &R, alloc: Global, table: &str) -> Result<(), Memory> {
+    holds_by(rt, alloc, table, 1000)
+}
