@@ -138,7 +138,6 @@ impl<G: Gate + Drop> Engine<G> {
     }
 
     /// `POST /rooms/{roomId}/leave`.
-    #[tactic(auto, unfolding(crate::specs::Asked::leave_aimed))]
     pub(crate) fn leave_aim(
         &self,
         alloc: Global,
@@ -147,7 +146,7 @@ impl<G: Gate + Drop> Engine<G> {
         room: &Text,
         reason: Option<Text>,
     ) -> Result<Aim, Memory>
-        ensures aimed { IfOk result (λ a. aimed_of a ≡ asked.leave_aimed (site_of self.now) now who.now room.now reason) }
+        ensures aimed { IfOk result (λ a. aimed_of a ≡ asked.member_aimed (site_of self.now) now who.now room.now who.now.user (codes "leave") reason) }
         ensures within { IfOk result (IsWithin self.now.workers) }
     {
         let user = who.user.as_text().copy(alloc)?;
@@ -175,40 +174,6 @@ impl<G: Gate + Drop> Engine<G> {
         }
     }
 
-    /// `POST /rooms/{roomId}/kick`.
-    #[tactic(auto, unfolding(crate::specs::Asked::kick_aimed))]
-    pub(crate) fn kick_aim(
-        &self,
-        alloc: Global,
-        now: u64,
-        who: &Who,
-        room: &Text,
-        user: Text,
-        reason: Option<Text>,
-    ) -> Result<Aim, Memory>
-        ensures aimed { IfOk result (λ a. aimed_of a ≡ asked.kick_aimed (site_of self.now) now who.now room.now user reason) }
-        ensures within { IfOk result (IsWithin self.now.workers) }
-    {
-        self.member_aim(alloc, now, who, room, user, "leave", reason)
-    }
-
-    /// `POST /rooms/{roomId}/ban`.
-    #[tactic(auto, unfolding(crate::specs::Asked::ban_aimed))]
-    pub(crate) fn ban_aim(
-        &self,
-        alloc: Global,
-        now: u64,
-        who: &Who,
-        room: &Text,
-        user: Text,
-        reason: Option<Text>,
-    ) -> Result<Aim, Memory>
-        ensures aimed { IfOk result (λ a. aimed_of a ≡ asked.ban_aimed (site_of self.now) now who.now room.now user reason) }
-        ensures within { IfOk result (IsWithin self.now.workers) }
-    {
-        self.member_aim(alloc, now, who, room, user, "ban", reason)
-    }
-
     /// `POST /rooms/{roomId}/unban`.
     #[tactic(auto, unfolding(crate::specs::Asked::unban_aimed))]
     pub(crate) fn unban_aim(
@@ -231,8 +196,9 @@ impl<G: Gate + Drop> Engine<G> {
         Ok(Aim::Write(room.writer, EventDraft::Unban(draft, banned), Told::Done))
     }
 
-    /// A member event of a user, of which is told that it was done.
-    fn member_aim(
+    /// A member event of a user, of which is told that it was done: `POST /rooms/{roomId}/kick` and `POST /rooms/{roomId}/ban`.
+    #[tactic(auto, unfolding(crate::specs::Asked::member_aimed))]
+    pub(crate) fn member_aim(
         &self,
         alloc: Global,
         now: u64,
@@ -242,7 +208,7 @@ impl<G: Gate + Drop> Engine<G> {
         membership: &str,
         reason: Option<Text>,
     ) -> Result<Aim, Memory>
-        ensures aimed { IfOk result (λ a. aimed_of a ≡ asked.in_room (λ r. asked.one (member_event now who.now user membership.now reason r)) (λ r. Told.Done) (room_of (site_of self.now) room.now)) }
+        ensures aimed { IfOk result (λ a. aimed_of a ≡ asked.member_aimed (site_of self.now) now who.now room.now user membership.now reason) }
         ensures within { IfOk result (IsWithin self.now.workers) }
     {
         let Some(room) = self.room_of(room) else {
