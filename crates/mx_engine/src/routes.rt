@@ -16,6 +16,7 @@ use crate::held::Engine;
 use crate::said::Refusal;
 use crate::writes::create_refusal;
 use mx_create::{CreateFault, block};
+use mx_event::event_types::{MEMBER, REDACTION};
 use mx_event::{Draft, Txn};
 use mx_ids::{Copied, Memory, RoomId, Text, UserId, is_user_id, read_room_id, user_id};
 use mx_json::Json;
@@ -106,7 +107,7 @@ impl<G: Gate + Drop> Engine<G> {
         };
         let draft = Draft {
             room,
-            kind: text(alloc, "m.room.redaction")?,
+            kind: text(alloc, REDACTION)?,
             state_key: None,
             sender: who.user.copy(alloc)?,
             content: redaction_content(alloc, event, reason)?,
@@ -258,7 +259,7 @@ impl<G: Gate + Drop> Engine<G> {
     fn invites_stranger(&self, kind: &Text, key: &Text, content: &Json) -> bool
         ensures { result ≡ invites_stranger (site_of self.now) kind.now key.now content.now }
     {
-        kind.as_str() == "m.room.member" && (is_invite(content) && !self.is_known(key))
+        kind.as_str() == MEMBER && (is_invite(content) && !self.is_known(key))
     }
 
     /// Whether a text is the id of one of the server's users. Takes no memory.
@@ -302,7 +303,7 @@ fn member_event(
 {
     Ok(Draft {
         room,
-        kind: text(alloc, "m.room.member")?,
+        kind: text(alloc, MEMBER)?,
         state_key: Some(user),
         sender: who.user.copy(alloc)?,
         content: member_content(alloc, membership, reason)?,
