@@ -1,6 +1,6 @@
 -- The chain of each device agrees with the picture at its token, whatever other stores stand between.
 use Rattle.std.proofs.Common.{◌≡◌, ℕ, ◌≤◌, ◌&&◌, List, [], ◌∷◌, ◌++◌, take, drop, length, Bool, true, false, cond, Option, Some, None, Ok, Err, option_and_then, IfSome, bytes_eq, nat_eq, refl, sym, ap, ◌∙◌, subst, arith, length-append}
-use Rattle.std.specs.Prelude.{⊤}
+use Rattle.std.specs.Prelude.{⊤, codes}
 use Rattle.std.proofs.lemmas.Bool.{cases_Bool, and_parts, eqb-true}
 use Rattle.std.proofs.lemmas.List.{take-append-le, take-append-drop, take_all, take-take}
 use Rattle.std.proofs.lemmas.Slice.Eq.{bytes_eq-Decides}
@@ -27,7 +27,7 @@ use Rattle.mx_engine.specs.declared.said.Refusal.{Refusal}
 use Rattle.mx_engine.specs.declared.said.Said.{Said}
 use Rattle.mx_engine.specs.declared.said.Said.TheVariants as said
 use Rattle.mx_engine.specs.Answers.{Lists, Sends, Stops, act_said, ahead_of, answer_to, asked, counts, event_refusal, lane_of, never, reply_to, sync_said, told_at, unless_ahead, unless_full, whoami_said, write_said}
-use Rattle.mx_engine.specs.Asked.{Aimed, Site, ban_aimed, create_aimed, invite_aimed, join_aimed, kick_aimed, leave_aimed, put_entry, redact_aimed, send_aimed, state_aimed, unban_aimed}
+use Rattle.mx_engine.specs.Asked.{Aimed, Site, create_aimed, invite_aimed, join_aimed, member_aimed, put_entry, redact_aimed, send_aimed, state_aimed, unban_aimed}
 use Rattle.mx_engine.specs.Chains.{Agrees, Client, ChainsAgree, after_reply, chain, content_at, is_of_device, last_content, new_client, same_token, with_reply, with_said}
 use Rattle.mx_engine.specs.Decided.{decided_entry}
 use Rattle.mx_engine.specs.Exchanges.{AreExchanges, IsExchange, first_of}
@@ -85,10 +85,10 @@ answer_is site lists m now who (ask.Send room kind txn content) = sends_is who.u
 answer_is site lists m now who (ask.PutState room kind key content) = sends_is who.user (covered lists.accounts) lists m (state_aimed site now who room kind key content)
 answer_is site lists m now who (ask.Redact room event txn reason) = sends_is who.user (covered lists.accounts) lists m (redact_aimed site now who room event txn reason)
 answer_is site lists m now who (ask.Join room reason) = sends_is who.user (covered lists.accounts) lists m (join_aimed site now who room reason)
-answer_is site lists m now who (ask.Leave room reason) = sends_is who.user (covered lists.accounts) lists m (leave_aimed site now who room reason)
+answer_is site lists m now who (ask.Leave room reason) = sends_is who.user (covered lists.accounts) lists m (member_aimed site now who room who.user (codes "leave") reason)
 answer_is site lists m now who (ask.Invite room user reason) = sends_is who.user (covered lists.accounts) lists m (invite_aimed site now who room user reason)
-answer_is site lists m now who (ask.Kick room user reason) = sends_is who.user (covered lists.accounts) lists m (kick_aimed site now who room user reason)
-answer_is site lists m now who (ask.Ban room user reason) = sends_is who.user (covered lists.accounts) lists m (ban_aimed site now who room user reason)
+answer_is site lists m now who (ask.Kick room user reason) = sends_is who.user (covered lists.accounts) lists m (member_aimed site now who room user (codes "leave") reason)
+answer_is site lists m now who (ask.Ban room user reason) = sends_is who.user (covered lists.accounts) lists m (member_aimed site now who room user (codes "ban") reason)
 answer_is site lists m now who (ask.Unban room user reason) = sends_is who.user (covered lists.accounts) lists m (unban_aimed site now who room user reason)
 answer_is site lists m now who (ask.Sync since) = sync_is who.user (front_of lists.events) (front_of lists.receipts) (covered lists.accounts) since
 answer_is site lists m now who (ask.PutAccount kind content) = write_is who.user (covered lists.accounts) never (λ at. said.Done) (λ n. tt) (decided_entry (put_entry who kind content)) m

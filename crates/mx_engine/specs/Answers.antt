@@ -1,5 +1,5 @@
 -- *Answer*: what is told on the lists at a mark, and the law of a mark.
-use Rattle.std.specs.Prelude.{◌≡◌, ℕ, List, [], false, Option, Some, None, Ok, Err, length, take, drop, slice_get, option_map, option_and_then, unwrap_or, nat_lt, if◌then◌else◌}
+use Rattle.std.specs.Prelude.{◌≡◌, ℕ, List, [], false, Option, Some, None, Ok, Err, codes, length, take, drop, slice_get, option_map, option_and_then, unwrap_or, nat_lt, if◌then◌else◌}
 use Rattle.mx_account.specs.Data.{data_of}
 use Rattle.mx_account.specs.declared.entry.Entry.{Entry}
 use Rattle.mx_core.specs.Covered.{covered, front_of}
@@ -12,7 +12,7 @@ use Rattle.mx_receipt.specs.declared.receipt.Receipt.{Receipt}
 use Rattle.mx_room.specs.declared.fault.RoomFault.{RoomFault}
 use Rattle.mx_room.specs.declared.fault.RoomFault.TheVariants as room_faults
 use Rattle.mx_writers.specs.Decision.{Decision, Stores, Keeps, Refuses}
-use Rattle.mx_engine.specs.Asked.{Aimed, Site, ban_aimed, create_aimed, create_refusal, invite_aimed, join_aimed, kick_aimed, leave_aimed, put_entry, redact_aimed, send_aimed, state_aimed, unban_aimed, writer_for}
+use Rattle.mx_engine.specs.Asked.{Aimed, Site, create_aimed, create_refusal, invite_aimed, join_aimed, member_aimed, put_entry, redact_aimed, send_aimed, state_aimed, unban_aimed, writer_for}
 use Rattle.mx_engine.specs.Decided.{decided_entry, entry_placed}
 use Rattle.mx_engine.specs.Plans.{decided_plan}
 use Rattle.mx_engine.specs.Written.{KeepsMark, mark_of}
@@ -150,10 +150,10 @@ asked site now who (ask.Send room kind txn content) = Sends (send_aimed site now
 asked site now who (ask.PutState room kind key content) = Sends (state_aimed site now who room kind key content)
 asked site now who (ask.Redact room event txn reason) = Sends (redact_aimed site now who room event txn reason)
 asked site now who (ask.Join room reason) = Sends (join_aimed site now who room reason)
-asked site now who (ask.Leave room reason) = Sends (leave_aimed site now who room reason)
+asked site now who (ask.Leave room reason) = Sends (member_aimed site now who room who.user (codes "leave") reason)
 asked site now who (ask.Invite room user reason) = Sends (invite_aimed site now who room user reason)
-asked site now who (ask.Kick room user reason) = Sends (kick_aimed site now who room user reason)
-asked site now who (ask.Ban room user reason) = Sends (ban_aimed site now who room user reason)
+asked site now who (ask.Kick room user reason) = Sends (member_aimed site now who room user (codes "leave") reason)
+asked site now who (ask.Ban room user reason) = Sends (member_aimed site now who room user (codes "ban") reason)
 asked site now who (ask.Unban room user reason) = Sends (unban_aimed site now who room user reason)
 asked site now who (ask.Sync since) = Reads (λ lists. sync_said who.user (front_of lists.events) (front_of lists.receipts) (covered lists.accounts) since)
 asked site now who (ask.PutAccount kind content) = Puts (writer_for site who.user) (put_entry who kind content)

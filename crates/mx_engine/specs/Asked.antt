@@ -72,9 +72,6 @@ state_event now who kind key content room = record { room = room; kind = kind; s
 unfoldable pub send_aimed : Site → ℕ → Who → List ℕ → List ℕ → Txn → Json → Aimed
 send_aimed site now who room kind txn content = in_room (λ r. One (message now who kind txn content r)) (λ r. told.Sent) (room_of site room)
 
-abbrev pub one : Draft → Plan
-one d = One d
-
 abbrev pub is_invite : Json → Bool
 is_invite content = is_text (codes "invite") (membership_in content)
 
@@ -109,22 +106,14 @@ member_event now who user membership reason room = state_event now who member_ty
 unfoldable pub join_aimed : Site → ℕ → Who → List ℕ → Option (List ℕ) → Aimed
 join_aimed site now who room reason = in_room (λ r. Join (member_event now who who.user (codes "join") reason r)) told.Room (room_of site room)
 
--- `POST /rooms/{roomId}/leave`
-unfoldable pub leave_aimed : Site → ℕ → Who → List ℕ → Option (List ℕ) → Aimed
-leave_aimed site now who room reason = in_room (λ r. One (member_event now who who.user (codes "leave") reason r)) (λ r. told.Done) (room_of site room)
+-- a member event of a user, of which is told that it was done: `POST /rooms/{roomId}/leave` (of the caller), `kick` and `ban`
+unfoldable pub member_aimed : Site → ℕ → Who → List ℕ → List ℕ → List ℕ → Option (List ℕ) → Aimed
+member_aimed site now who room user membership reason = in_room (λ r. One (member_event now who user membership reason r)) (λ r. told.Done) (room_of site room)
 
 -- `POST /rooms/{roomId}/invite`
 unfoldable pub invite_aimed : Site → ℕ → Who → List ℕ → List ℕ → Option (List ℕ) → Aimed
 invite_aimed site now who room user reason =
-    if is_known site.users user then in_room (λ r. One (member_event now who user (codes "invite") reason r)) (λ r. told.Done) (room_of site room) else Err refusal.NotFound
-
--- `POST /rooms/{roomId}/kick`
-unfoldable pub kick_aimed : Site → ℕ → Who → List ℕ → List ℕ → Option (List ℕ) → Aimed
-kick_aimed site now who room user reason = in_room (λ r. One (member_event now who user (codes "leave") reason r)) (λ r. told.Done) (room_of site room)
-
--- `POST /rooms/{roomId}/ban`
-unfoldable pub ban_aimed : Site → ℕ → Who → List ℕ → List ℕ → Option (List ℕ) → Aimed
-ban_aimed site now who room user reason = in_room (λ r. One (member_event now who user (codes "ban") reason r)) (λ r. told.Done) (room_of site room)
+    if is_known site.users user then member_aimed site now who room user (codes "invite") reason else Err refusal.NotFound
 
 abbrev pub user_if : List ℕ → Option (List ℕ)
 user_if text = if is_user_id_text text then Some text else None

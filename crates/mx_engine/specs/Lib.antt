@@ -5,6 +5,7 @@ pub mod Decided
 pub mod EventsDecided
 pub mod Exchanges
 pub mod Plans
+pub mod Repeats
 pub mod Shown
 pub mod Waiting
 pub mod Written

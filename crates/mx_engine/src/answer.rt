@@ -87,11 +87,11 @@ impl<G: Gate + Drop> Engine<G> {
                 self.send(rt, alloc, pass, now, aim)
             }
             Ask::Kick { room, user, reason } => {
-                let aim = self.kick_aim(alloc, now, who, &room, user, reason);
+                let aim = self.member_aim(alloc, now, who, &room, user, "leave", reason);
                 self.send(rt, alloc, pass, now, aim)
             }
             Ask::Ban { room, user, reason } => {
-                let aim = self.ban_aim(alloc, now, who, &room, user, reason);
+                let aim = self.member_aim(alloc, now, who, &room, user, "ban", reason);
                 self.send(rt, alloc, pass, now, aim)
             }
             Ask::Unban { room, user, reason } => {

@@ -28,7 +28,7 @@ pub use ask::{Ask, Request, Who};
 pub use creation::Creation;
 pub use events::{EventDraft, EventFault, Rooms};
 pub use held::{Engine, EnginePass};
-pub use laws::{chains_agree, exchanges_go_on};
+pub use laws::{chains_agree, engines_cross_threads, exchanges_go_on, repeats_stay};
 pub use receipts::Receipts;
 pub use said::{Refusal, Reply, Said};
 pub use seated::Seated;

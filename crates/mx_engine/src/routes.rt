@@ -16,6 +16,7 @@ use crate::held::Engine;
 use crate::said::Refusal;
 use crate::writes::create_refusal;
 use mx_create::{CreateFault, block};
+use mx_event::event_types::{MEMBER, REDACTION};
 use mx_event::{Draft, Txn};
 use mx_ids::{Copied, Memory, RoomId, Text, UserId, is_user_id, read_room_id, user_id};
 use mx_json::Json;
@@ -106,7 +107,7 @@ impl<G: Gate + Drop> Engine<G> {
         };
         let draft = Draft {
             room,
-            kind: text(alloc, "m.room.redaction")?,
+            kind: text(alloc, REDACTION)?,
             state_key: None,
             sender: who.user.copy(alloc)?,
             content: redaction_content(alloc, event, reason)?,
@@ -138,7 +139,6 @@ impl<G: Gate + Drop> Engine<G> {
     }
 
     /// `POST /rooms/{roomId}/leave`.
-    #[tactic(auto, unfolding(crate::specs::Asked::leave_aimed))]
     pub(crate) fn leave_aim(
         &self,
         alloc: Global,
@@ -147,7 +147,7 @@ impl<G: Gate + Drop> Engine<G> {
         room: &Text,
         reason: Option<Text>,
     ) -> Result<Aim, Memory>
-        ensures aimed { IfOk result (λ a. aimed_of a ≡ asked.leave_aimed (site_of self.now) now who.now room.now reason) }
+        ensures aimed { IfOk result (λ a. aimed_of a ≡ asked.member_aimed (site_of self.now) now who.now room.now who.now.user (codes "leave") reason) }
         ensures within { IfOk result (IsWithin self.now.workers) }
     {
         let user = who.user.as_text().copy(alloc)?;
@@ -175,40 +175,6 @@ impl<G: Gate + Drop> Engine<G> {
         }
     }
 
-    /// `POST /rooms/{roomId}/kick`.
-    #[tactic(auto, unfolding(crate::specs::Asked::kick_aimed))]
-    pub(crate) fn kick_aim(
-        &self,
-        alloc: Global,
-        now: u64,
-        who: &Who,
-        room: &Text,
-        user: Text,
-        reason: Option<Text>,
-    ) -> Result<Aim, Memory>
-        ensures aimed { IfOk result (λ a. aimed_of a ≡ asked.kick_aimed (site_of self.now) now who.now room.now user reason) }
-        ensures within { IfOk result (IsWithin self.now.workers) }
-    {
-        self.member_aim(alloc, now, who, room, user, "leave", reason)
-    }
-
-    /// `POST /rooms/{roomId}/ban`.
-    #[tactic(auto, unfolding(crate::specs::Asked::ban_aimed))]
-    pub(crate) fn ban_aim(
-        &self,
-        alloc: Global,
-        now: u64,
-        who: &Who,
-        room: &Text,
-        user: Text,
-        reason: Option<Text>,
-    ) -> Result<Aim, Memory>
-        ensures aimed { IfOk result (λ a. aimed_of a ≡ asked.ban_aimed (site_of self.now) now who.now room.now user reason) }
-        ensures within { IfOk result (IsWithin self.now.workers) }
-    {
-        self.member_aim(alloc, now, who, room, user, "ban", reason)
-    }
-
     /// `POST /rooms/{roomId}/unban`.
     #[tactic(auto, unfolding(crate::specs::Asked::unban_aimed))]
     pub(crate) fn unban_aim(
@@ -231,8 +197,9 @@ impl<G: Gate + Drop> Engine<G> {
         Ok(Aim::Write(room.writer, EventDraft::Unban(draft, banned), Told::Done))
     }
 
-    /// A member event of a user, of which is told that it was done.
-    fn member_aim(
+    /// A member event of a user, of which is told that it was done: `POST /rooms/{roomId}/kick` and `POST /rooms/{roomId}/ban`.
+    #[tactic(auto, unfolding(crate::specs::Asked::member_aimed))]
+    pub(crate) fn member_aim(
         &self,
         alloc: Global,
         now: u64,
@@ -242,7 +209,7 @@ impl<G: Gate + Drop> Engine<G> {
         membership: &str,
         reason: Option<Text>,
     ) -> Result<Aim, Memory>
-        ensures aimed { IfOk result (λ a. aimed_of a ≡ asked.in_room (λ r. asked.one (member_event now who.now user membership.now reason r)) (λ r. Told.Done) (room_of (site_of self.now) room.now)) }
+        ensures aimed { IfOk result (λ a. aimed_of a ≡ asked.member_aimed (site_of self.now) now who.now room.now user membership.now reason) }
         ensures within { IfOk result (IsWithin self.now.workers) }
     {
         let Some(room) = self.room_of(room) else {
@@ -292,7 +259,7 @@ impl<G: Gate + Drop> Engine<G> {
     fn invites_stranger(&self, kind: &Text, key: &Text, content: &Json) -> bool
         ensures { result ≡ invites_stranger (site_of self.now) kind.now key.now content.now }
     {
-        kind.as_str() == "m.room.member" && (is_invite(content) && !self.is_known(key))
+        kind.as_str() == MEMBER && (is_invite(content) && !self.is_known(key))
     }
 
     /// Whether a text is the id of one of the server's users. Takes no memory.
@@ -336,7 +303,7 @@ fn member_event(
 {
     Ok(Draft {
         room,
-        kind: text(alloc, "m.room.member")?,
+        kind: text(alloc, MEMBER)?,
         state_key: Some(user),
         sender: who.user.copy(alloc)?,
         content: member_content(alloc, membership, reason)?,

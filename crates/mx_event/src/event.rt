@@ -33,6 +33,8 @@ pub struct Txn {
     /// The device's number in the users file.
     pub device: u32,
     pub id: Text,
+    /// The decoded parts of the request's path from `{roomId}` on, without the transaction id: `[room, "send", type]` or
+    /// `[room, "redact", event]`.
     pub path: Seq<Text>,
 }
 

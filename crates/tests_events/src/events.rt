@@ -126,6 +126,24 @@ fn redaction(rt: &impl Abort, alloc: Global) -> Event {
     redaction
 }
 
+/// Whether an event is a room's name and nothing else.
+fn is_name(event: &Event) -> bool {
+    event.is_of("m.room.name")
+        && event.has_key("m.room.name", "")
+        && !event.is_of("m.room.topic")
+        && !event.has_key("m.room.name", "x")
+        && !event.has_key("m.room.topic", "")
+}
+
+#[test]
+fn an_event_tells_its_type_its_key_and_what_it_names(rt: HostRuntime) {
+    let alloc = rt.alloc();
+    assert!(rt; is_name(&name_event(&rt, alloc)));
+    assert!(rt; !redaction(&rt, alloc).has_key("m.room.redaction", ""));
+    assert_eq!(rt; redaction(&rt, alloc).named_id(), Some(EventId { at: 7 }));
+    assert_eq!(rt; name_event(&rt, alloc).named_id(), None);
+}
+
 /// A copy of the name of a room with the redaction for which it is redacted.
 fn redacted_name(rt: &impl Abort, alloc: Global) -> Shown {
     let shown = Shown {

@@ -22,10 +22,10 @@ pub returns-in-Invite-clause-answered : goal.returns-in-Invite-clause-answered
 returns-in-Invite-clause-answered g c = rw c.in-Invite.is (c.send-in-Invite.ensures.done _ c.invite_aim-aim.ensures.aimed)
 
 pub returns-in-Kick-clause-answered : goal.returns-in-Kick-clause-answered
-returns-in-Kick-clause-answered g c = rw c.in-Kick.is (c.send-in-Kick.ensures.done _ c.kick_aim-aim.ensures.aimed)
+returns-in-Kick-clause-answered g c = rw c.in-Kick.is (c.send-in-Kick.ensures.done _ c.member_aim-aim.ensures.aimed)
 
 pub returns-in-Ban-clause-answered : goal.returns-in-Ban-clause-answered
-returns-in-Ban-clause-answered g c = rw c.in-Ban.is (c.send-in-Ban.ensures.done _ c.ban_aim-aim.ensures.aimed)
+returns-in-Ban-clause-answered g c = rw c.in-Ban.is (c.send-in-Ban.ensures.done _ c.member_aim-aim-in-Ban.ensures.aimed)
 
 pub returns-in-Unban-clause-answered : goal.returns-in-Unban-clause-answered
 returns-in-Unban-clause-answered g c = rw c.in-Unban.is (c.send-in-Unban.ensures.done _ c.unban_aim-aim.ensures.aimed)
