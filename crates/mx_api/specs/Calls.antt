@@ -1,5 +1,5 @@
 -- Who calls, the parts of the path, and what a call asks where none is refused.
-use Rattle.std.specs.Prelude.{◌≡◌, ℕ, ◌==◌, List, Option, Some, None, Result, Ok, Err, drop, ok_or, option_map, slice_get}
+use Rattle.std.specs.Prelude.{ℕ, ◌==◌, List, Option, Some, None, Result, Ok, Err, drop, ok_or, option_map}
 use Rattle.std.specs.List.{slice_split}
 use Rattle.mx_ids.specs.declared.users.Users.{Users}
 use Rattle.mx_http.specs.Paths.{decoded_parts}
@@ -7,7 +7,6 @@ use Rattle.mx_http.specs.Queries.{access_token, parameters, path_of, query_of}
 use Rattle.mx_http.specs.declared.call.Call.{Call}
 use Rattle.mx_engine.specs.Shown.{IsAsk}
 use Rattle.mx_engine.specs.declared.ask.Ask.{Ask}
-use Rattle.mx_engine.specs.declared.ask.Ask.TheVariants as ask
 use Rattle.mx_engine.specs.declared.ask.Who.{Who}
 use Rattle.mx_users.specs.Finds.{caller_of}
 use Rattle.mx_api.specs.declared.asked.Asked.{Asked}
@@ -46,17 +45,11 @@ authenticated users call =
     let query = parameters (query_of call.target) in
     and_then (with_parts (path_of call.target) query) (caller_in users (access_token call.bearer query))
 
--- the path of a transaction names the room
-abbrev pub NamesRoom : Ask → Type 0
-NamesRoom (ask.Send room kind txn content) = slice_get txn.path 0 ≡ Some room
-NamesRoom (ask.Redact room event txn reason) = slice_get txn.path 0 ≡ Some room
-NamesRoom other = Unit {0}
-
 -- a request meets the conditions of the engine's calls
 abbrev pub IsAsked : Asked → Type 0
 IsAsked asked.NoRoute = Unit {0}
 IsAsked (asked.Refused r) = Unit {0}
-IsAsked (asked.Request r) = IsAsk r.ask × NamesRoom r.ask
+IsAsked (asked.Request r) = IsAsk r.ask
 
 -- what is asked, unless there was a refusal
 abbrev pub asked_by : {A : Type 0} → (A → Asked) → Result A Refused → Asked

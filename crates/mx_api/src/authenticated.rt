@@ -3,10 +3,10 @@ ghost use Rattle.std.specs.Prelude.{◌≡◌, IfOk};
 ghost use Rattle.mx_http.specs.Queries.{access_token};
 ghost use Rattle.mx_api.specs.Calls.{authenticated, caller_in, with_parts};
 
-use crate::parts::raw_parts;
+use crate::parts::parts_behind;
 use crate::refused::Refused;
 use mx_engine::Who;
-use mx_http::{Call, access_token, path, path_parts, query};
+use mx_http::{Call, access_token, path, query};
 use mx_ids::{Copied, Memory, Seq, Text};
 use mx_users::Directory;
 use std::alloc::Global;
@@ -70,7 +70,7 @@ fn with_parts(
 ) -> Result<Result<Authenticated, Refused>, Memory>
     ensures { IfOk result (λ r. r ≡ with_parts path.now query who) }
 {
-    match path_parts(alloc, &raw_parts(alloc, path)?)? {
+    match parts_behind(alloc, path)? {
         Some(parts) => Ok(Ok(Authenticated { who, parts, query })),
         None => Ok(Err(Refused::BadPath)),
     }

@@ -15,5 +15,5 @@ pub use authenticated::{Authenticated, authenticate};
 pub use bodies::{object_body, post_body, text_field};
 pub use parts::{four_parts, one_part, three_parts, two_parts};
 pub use refused::{Field, Parameter, Refused, refused_json};
-pub use routing::{Path, route_at, router_of};
+pub use routing::{RoutePath, route_at, router_of};
 pub use texts::{error_json, text};

@@ -1,21 +1,22 @@
 //! The parts of a path.
 ghost use Rattle.std.specs.Prelude.{◌≡◌, ◌==◌, IfOk, map};
 ghost use Rattle.std.specs.List.{slice_split};
+ghost use Rattle.mx_http.specs.Paths.{decoded_parts};
 ghost use Rattle.mx_api.specs.Calls.{raw_parts};
 ghost use Rattle.mx_api.specs.Parts.{four_parts, one_part, three_parts, two_parts};
 
-use crate::texts::text;
+use mx_http::path_parts;
 use mx_ids::{Memory, Seq, Text};
 use std::alloc::Global;
 
-/// The parts behind the fifth slash, as they stand.
-pub(crate) fn raw_parts(alloc: Global, path: &str) -> Result<Seq<Text>, Memory>
-    ensures { IfOk result (λ parts. parts ≡ raw_parts path.now) }
+/// The parts behind the fifth slash, each decoded; `None` exactly where one then isn't UTF-8.
+pub(crate) fn parts_behind(alloc: Global, path: &str) -> Result<Option<Seq<Text>>, Memory>
+    ensures { IfOk result (λ parts. parts ≡ decoded_parts (raw_parts path.now)) }
 {
     let pieces = pieces(alloc, path)?;
     match pieces.as_slice() {
-        [_, _matrix, _client, _version, _first, parts @ ..] => texts(alloc, parts),
-        _ => Ok(Seq::new(alloc)),
+        [_, _matrix, _client, _version, _first, parts @ ..] => path_parts(alloc, parts),
+        _ => Ok(Some(Seq::new(alloc))),
     }
 }
 
@@ -24,17 +25,6 @@ fn pieces(alloc: Global, path: &str) -> Result<Vec<&str>, Memory>
     ensures { IfOk result (λ v. map (λ x. x.now) v.items ≡ slice_split (λ b. b == 47) path.now) }
 {
     Ok(path.split('/').collect(alloc)?)
-}
-
-/// Texts of their own.
-fn texts(alloc: Global, pieces: &[&str]) -> Result<Seq<Text>, Memory>
-    ensures { IfOk result (λ texts. texts ≡ map (λ x. x.now) pieces.now) }
-{
-    let mut texts = Vec::with_capacity(alloc, pieces.len())?;
-    'pieces: for piece in pieces {
-        texts.push(text(alloc, piece)?)?;
-    }
-    Ok(Seq::from_vec(texts))
 }
 
 /// The part, where there is one. Takes no memory.

@@ -8,7 +8,7 @@ use mx_ids::Memory;
 use std::alloc::Global;
 
 /// A route, which has a path with parameters in braces.
-pub trait Path: Copy + Drop {
+pub trait RoutePath: Copy + Drop {
     ghost path: { Self → List ℕ };
 
     /// The path, with its parameters.
@@ -17,7 +17,7 @@ pub trait Path: Copy + Drop {
 }
 
 /// The table of routes by their paths. `Memory` where there is no room for it, or two of the paths conflict.
-pub fn router_of<R: Path>(alloc: Global, routes: &[R]) -> Result<Router<R>, Memory>
+pub fn router_of<R: RoutePath>(alloc: Global, routes: &[R]) -> Result<Router<R>, Memory>
     ensures { IfOk result (λ router. router ≡ rows_of R.path routes.now) }
 {
     let mut router = Router::new(alloc);
@@ -31,7 +31,7 @@ pub fn router_of<R: Path>(alloc: Global, routes: &[R]) -> Result<Router<R>, Memo
 }
 
 /// The route that a path finds. Takes no memory.
-pub fn route_at<R: Path>(router: &Router<R>, path: &str) -> Option<R>
+pub fn route_at<R: RoutePath>(router: &Router<R>, path: &str) -> Option<R>
     ensures { result ≡ option_map (λ row. row.value) (first router.now path.now) }
 {
     match router.at(path) {

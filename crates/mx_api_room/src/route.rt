@@ -2,7 +2,7 @@
 ghost use Rattle.std.specs.Prelude.{◌≡◌};
 ghost use Rattle.mx_api_room.specs.Routes.{has_method, path_of};
 
-use mx_api::Path;
+use mx_api::RoutePath;
 
 /// A route, by its path.
 #[derive(Clone, Copy, Drop)]
@@ -52,7 +52,7 @@ pub(crate) const ROUTES: [Route; 13] = [
     Route::Unban,
 ];
 
-impl Path for Route {
+impl RoutePath for Route {
     ghost use Rattle.mx_api_room.specs.Routes.{path_of};
 
     ghost path = { path_of };

@@ -2,7 +2,7 @@
 ghost use Rattle.std.specs.Prelude.{◌≡◌};
 ghost use Rattle.mx_api_user.specs.Routes.{has_method, path_of};
 
-use mx_api::Path;
+use mx_api::RoutePath;
 
 /// A route, by its path.
 #[derive(Clone, Copy, Drop)]
@@ -18,7 +18,7 @@ pub(crate) enum Route {
 /// All of them.
 pub(crate) const ROUTES: [Route; 3] = [Route::WhoAmI, Route::Sync, Route::AccountData];
 
-impl Path for Route {
+impl RoutePath for Route {
     ghost use Rattle.mx_api_user.specs.Routes.{path_of};
 
     ghost path = { path_of };

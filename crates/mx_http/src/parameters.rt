@@ -1,5 +1,5 @@
 //! The query of a target, and the parts of its path.
-ghost use Rattle.std.specs.Prelude.{◌≡◌, IfOk, option_map};
+ghost use Rattle.std.specs.Prelude.{◌≡◌, IfOk, map, option_map};
 ghost use Rattle.mx_http.specs.Queries.{access_token, parameter, parameters, path_of, query_of};
 ghost use Rattle.mx_http.specs.Paths.{decoded_part, decoded_parts};
 
@@ -70,12 +70,11 @@ pub fn path(target: &Text) -> &str
 
 /// The parts of a path, each decoded (RFC 3986, section 2.1): `None` exactly where a decoded part isn't UTF-8. A `+` stays,
 /// and an escape that is malformed stands for itself.
-
-pub fn path_parts(alloc: Global, parts: &Seq<Text>) -> Result<Option<Seq<Text>>, Memory>
-    ensures { IfOk result (λ decoded. decoded ≡ decoded_parts parts.now) }
+pub fn path_parts(alloc: Global, parts: &[&str]) -> Result<Option<Seq<Text>>, Memory>
+    ensures { IfOk result (λ decoded. decoded ≡ decoded_parts (map (λ part. part.now) parts.now)) }
 {
     let mut decoded = Seq::new(alloc);
-    'parts: for part in parts.as_slice() {
+    'parts: for part in parts {
         let Some(text) = decoded_part(alloc, part)? else {
             return Ok(None);
         };
@@ -86,11 +85,11 @@ pub fn path_parts(alloc: Global, parts: &Seq<Text>) -> Result<Option<Seq<Text>>,
 
 /// A part of a path, decoded: `None` exactly where it then isn't UTF-8.
 #[tactic(auto, using(crate::proofs::Paths::fails))]
-fn decoded_part(alloc: Global, part: &Text) -> Result<Option<Text>, Memory>
+fn decoded_part(alloc: Global, part: &str) -> Result<Option<Text>, Memory>
     ensures { IfOk result (λ decoded. decoded ≡ decoded_part part.now) }
 {
     let mut bytes = Vec::new(alloc);
-    percent_decode(part.as_str().as_bytes()).append_to(&mut bytes)?;
+    percent_decode(part.as_bytes()).append_to(&mut bytes)?;
     match String::from_utf8(bytes) {
         Ok(text) => Ok(Some(Text::from_string(text))),
         Err(_) => Ok(None),

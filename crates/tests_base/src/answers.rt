@@ -1,7 +1,7 @@
 //! The bytes of answers, and the names and values of queries.
 use crate::make::{json, text};
 use mx_http::{Answer, Body, parameter, path, path_parts, query, write_answer};
-use mx_ids::{Seq, Text};
+use mx_ids::Text;
 use mx_outside::MemSink;
 use std::alloc::{AllocError, Global};
 use std::process::Abort;
@@ -170,11 +170,8 @@ fn the_first_parameter_of_a_name_counts(rt: HostRuntime) {
 
 /// The two parts of a path once they are decoded, with a line between them; empty where one isn't UTF-8.
 fn decoded(rt: &impl Abort, alloc: Global, first: &str, second: &str) -> Text {
-    let mut parts = Seq::new(alloc);
-    parts.push(text(rt, alloc, first)).expect(rt, "memory");
-    parts.push(text(rt, alloc, second)).expect(rt, "memory");
     let mut out = Text::new(alloc);
-    if let Some(parts) = path_parts(alloc, &parts).expect(rt, "memory") {
+    if let Some(parts) = path_parts(alloc, [first, second].as_slice()).expect(rt, "memory") {
         for part in parts.as_slice() {
             out.push_str(part.as_str()).expect(rt, "memory");
             out.push_str("|").expect(rt, "memory");
