@@ -16,3 +16,5 @@ mod receipts;
 mod rooms;
 #[cfg(test)]
 mod rules;
+#[cfg(test)]
+mod tags;

@@ -1,4 +1,4 @@
-//! Tests of globs, filters and push rules, through their public items.
+//! Tests of globs, filters, push rules and what they say of events, through their public items.
 #![tactic(auto)]
 
 #[cfg(test)]
@@ -7,5 +7,7 @@ mod filters;
 mod globs;
 #[cfg(test)]
 mod make;
+#[cfg(test)]
+mod notifies;
 #[cfg(test)]
 mod push_rules;

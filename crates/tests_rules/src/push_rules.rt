@@ -190,3 +190,44 @@ fn a_rule_stands_where_it_is_put(rt: HostRuntime) {
         assert!(&rt; has_order(&rt, rt.alloc(), &rules, row));
     }
 }
+
+/// Whether the rules of a content are read, and are then written as this content.
+fn reads_back(rt: &impl Abort, alloc: Global, content: &Json) -> bool {
+    match RuleSet::from_json(alloc, content).expect(rt, "memory") {
+        Some(rules) => {
+            let again = rules.to_json(alloc).expect(rt, "memory");
+            text_of(rt, alloc, &again).as_str() == text_of(rt, alloc, content).as_str()
+        }
+        None => false,
+    }
+}
+
+fn text_of(rt: &impl Abort, alloc: Global, json: &Json) -> Text {
+    let mut text = Text::new(alloc);
+    json.write(alloc, &mut text).expect(rt, "memory");
+    text
+}
+
+#[test]
+fn a_content_is_read_where_it_is_of_rules(rt: HostRuntime) {
+    let rows = json(
+        &rt,
+        rt.alloc(),
+        r#"[
+        [{"global":{"content":[],"override":[],"room":[],"sender":[],"underride":[]}}, true],
+        [{"global":{"content":[{"actions":[1],"default":false,"enabled":true,"pattern":"p","rule_id":"a"}],"override":[{"actions":[],"conditions":[{}],"default":true,"enabled":false,"rule_id":".b"}],"room":[{"actions":[],"default":false,"enabled":true,"rule_id":"a"},{"actions":[],"default":false,"enabled":true,"rule_id":"b"}],"sender":[{"actions":[],"default":false,"enabled":true,"rule_id":"a"}],"underride":[]}}, true],
+        [{"global":{"content":[],"override":[],"room":[{"actions":[],"default":false,"enabled":true,"rule_id":"a"},{"actions":[1],"default":false,"enabled":true,"rule_id":"a"}],"sender":[],"underride":[]}}, false],
+        [{"global":{"content":[],"override":[{"actions":[],"default":false,"enabled":true,"rule_id":"a"}],"room":[],"sender":[],"underride":[]}}, false],
+        [{"global":{"content":[],"override":[],"room":[{"actions":[],"default":false,"enabled":1,"rule_id":"a"}],"sender":[],"underride":[]}}, false],
+        [{"global":{"content":[],"override":[],"room":[{"actions":[],"default":false,"enabled":true,"rule_id":"a","x":1}],"sender":[],"underride":[]}}, false],
+        [{"global":{"content":[],"override":[],"room":[],"sender":[]}}, false],
+        [{"global":{"content":[],"override":[],"room":[],"sender":[],"underride":[]},"x":1}, false],
+        [[], false]
+    ]"#,
+    );
+    for row in list(&rt, &rows) {
+        assert!(&rt;
+            Some(reads_back(&rt, rt.alloc(), at(&rt, row, 0))) == at(&rt, row, 1).as_bool()
+        );
+    }
+}

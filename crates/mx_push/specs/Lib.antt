@@ -1,0 +1,5 @@
+pub mod Conditions
+pub mod Counts
+pub mod Notifies
+pub mod Properties
+pub mod Settings

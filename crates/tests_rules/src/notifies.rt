@@ -1,0 +1,166 @@
+//! What push rules say of events. The rules are those of `@al:example.org`, whose display name is `Al Name`.
+use crate::make::{at, json, list, str_in, text_in, user_in};
+use mx_auth::AuthState;
+use mx_event::Event;
+use mx_ids::{Copied, EventId, RoomId};
+use mx_json::Json;
+use mx_push::{Context, decide};
+use mx_rules::{Kind, RuleSet, defaults};
+use std::alloc::Global;
+use std::process::Abort;
+
+/// The event of a row: its type, its state key or `null`, its sender and its content.
+fn event(rt: &impl Abort, alloc: Global, row: &Json) -> Event {
+    let state_key = match at(rt, row, 1).as_text() {
+        Some(key) => Some(key.copy(alloc).expect(rt, "memory")),
+        None => None,
+    };
+    Event {
+        id: EventId { at: 7 },
+        room: RoomId { writer: 1, at: 2 },
+        kind: text_in(rt, alloc, row, 0),
+        state_key,
+        sender: user_in(rt, alloc, row, 2),
+        content: at(rt, row, 3).copy(alloc).expect(rt, "memory"),
+        ts: 1000,
+        txn: None,
+        has_url: false,
+    }
+}
+
+fn name_of(said: Option<bool>) -> &'static str {
+    match said {
+        Some(true) => "highlight",
+        Some(false) => "notify",
+        None => "",
+    }
+}
+
+/// Whether the rules say of the event of a row, in a room with as many members as the row says, what the row says.
+fn is_said(rt: &impl Abort, alloc: Global, rules: &RuleSet, state: &AuthState, row: &Json) -> bool {
+    let me = json(rt, alloc, r#"["@al:example.org", "Al Name"]"#);
+    let user = user_in(rt, alloc, &me, 0);
+    let event = event(rt, alloc, row);
+    let context = Context {
+        user: &user,
+        name: at(rt, &me, 1).as_text(),
+        joined: at(rt, row, 4)
+            .as_int()
+            .expect(rt, "a number")
+            .unsigned_abs(),
+        state,
+        room: "!1_2:example.org",
+        event_id: "$7:example.org",
+    };
+    let said = match decide(rules, &event, &context) {
+        Some(notify) => Some(notify.highlight),
+        None => None,
+    };
+    name_of(said) == str_in(rt, row, 5)
+}
+
+/// A room in which `@bo:example.org` has the level 50.
+fn state(rt: &impl Abort, alloc: Global) -> AuthState {
+    let levels = json(
+        rt,
+        alloc,
+        r#"["m.room.power_levels", "", "@bo:example.org", {"users":{"@bo:example.org":50}}]"#,
+    );
+    let mut state = AuthState::empty(alloc);
+    state.take(&event(rt, alloc, &levels)).expect(rt, "memory");
+    state
+}
+
+fn default_rules(rt: &impl Abort, alloc: Global) -> RuleSet {
+    let me = json(rt, alloc, r#"["@al:example.org"]"#);
+    defaults(alloc, &user_in(rt, alloc, &me, 0)).expect(rt, "memory")
+}
+
+#[test]
+fn each_default_rule_has_its_event(rt: HostRuntime) {
+    let rows = json(
+        &rt,
+        rt.alloc(),
+        r#"[
+        ["m.room.message", null, "@al:example.org", {"body":"hello"}, 3, ""],
+        ["m.room.message", null, "@bo:example.org", {"body":"al","msgtype":"m.notice"}, 3, ""],
+        ["m.room.member", "@al:example.org", "@bo:example.org", {"membership":"invite"}, 1, "notify"],
+        ["m.room.member", "@bo:example.org", "@bo:example.org", {"membership":"join"}, 3, ""],
+        ["m.room.message", null, "@bo:example.org", {"m.mentions":{"user_ids":["@x:example.org","@al:example.org"]}}, 3, "highlight"],
+        ["m.room.message", null, "@bo:example.org", {"m.mentions":{"user_ids":["@x:example.org"]},"body":"al"}, 3, "notify"],
+        ["m.room.message", null, "@bo:example.org", {"body":"oh, Al Name!"}, 3, "highlight"],
+        ["m.room.topic", "", "@bo:example.org", {"body":"oh, Al Names"}, 3, "highlight"],
+        ["m.room.topic", "", "@bo:example.org", {"body":"oh, Als Name"}, 3, ""],
+        ["m.room.message", null, "@bo:example.org", {"m.mentions":{"room":true}}, 3, "highlight"],
+        ["m.room.message", null, "@cy:example.org", {"m.mentions":{"room":true}}, 3, "notify"],
+        ["m.room.message", null, "@bo:example.org", {"body":"now @room!"}, 3, "highlight"],
+        ["m.room.message", null, "@cy:example.org", {"body":"now @room!"}, 3, "notify"],
+        ["m.room.tombstone", "", "@bo:example.org", {}, 3, "highlight"],
+        ["m.room.tombstone", "x", "@bo:example.org", {}, 3, ""],
+        ["m.reaction", null, "@bo:example.org", {"body":"al"}, 3, ""],
+        ["m.room.message", null, "@bo:example.org", {"body":"al","m.relates_to":{"rel_type":"m.replace"}}, 3, ""],
+        ["m.room.message", null, "@bo:example.org", {"body":"hi AL!"}, 3, "highlight"],
+        ["m.room.message", null, "@bo:example.org", {"body":"malice"}, 3, "notify"],
+        ["m.call.invite", null, "@bo:example.org", {}, 3, "notify"],
+        ["m.room.message", null, "@bo:example.org", {}, 2, "notify"],
+        ["m.room.topic", "", "@bo:example.org", {}, 2, ""]
+    ]"#,
+    );
+    let state = state(&rt, rt.alloc());
+    let rules = default_rules(&rt, rt.alloc());
+    for row in list(&rt, &rows) {
+        assert!(&rt; is_said(&rt, rt.alloc(), &rules, &state, row));
+    }
+}
+
+/// Puts the rules of rows: a kind, an id and a body.
+fn put_all(rt: &impl Abort, alloc: Global, rules: &mut RuleSet, rows: &Json) {
+    for row in list(rt, rows) {
+        let kind = match str_in(rt, row, 0) {
+            "override" => Kind::Override,
+            "content" => Kind::Content,
+            "room" => Kind::Room,
+            "sender" => Kind::Sender,
+            _ => Kind::Underride,
+        };
+        let id = text_in(rt, alloc, row, 1);
+        let put = rules.put(alloc, kind, &id, at(rt, row, 2), None, None);
+        put.expect(rt, "a rule");
+    }
+}
+
+#[test]
+fn the_first_rule_that_matches_decides(rt: HostRuntime) {
+    let puts = json(
+        &rt,
+        rt.alloc(),
+        r#"[
+        ["override", "few", {"actions":[],"conditions":[{"kind":"room_member_count","is":"<3"},{"kind":"event_match","key":"type","pattern":"a.*"}]}],
+        ["override", "many", {"actions":["notify"],"conditions":[{"kind":"room_member_count","is":">=99999999999999999999"}]}],
+        ["override", "exact", {"actions":["notify",{"set_tweak":"highlight","value":false}],"conditions":[{"kind":"event_property_is","key":"content.n","value":7},{"kind":"event_match","key":"room_id","pattern":"!1_2:*"}]}],
+        ["override", "unknown", {"actions":["notify"],"conditions":[{"kind":"org.example.new"}]}],
+        ["content", "alice", {"actions":["notify",{"set_tweak":"highlight"}],"pattern":"al?ce"}],
+        ["sender", "@bo:example.org", {"actions":["notify"]}],
+        ["room", "!1_2:example.org", {"actions":[]}],
+        ["underride", "all", {"actions":["notify"]}]
+    ]"#,
+    );
+    let rows = json(
+        &rt,
+        rt.alloc(),
+        r#"[
+        ["a.b", null, "@cy:example.org", {"body":"alice"}, 2, ""],
+        ["a.b", null, "@cy:example.org", {"body":"alice"}, 3, "highlight"],
+        ["b.a", null, "@cy:example.org", {"body":"ALxCE."}, 2, "highlight"],
+        ["b.a", null, "@bo:example.org", {"body":"malice"}, 3, ""],
+        ["b.a", null, "@bo:example.org", {"body":"alices","n":"7"}, 3, ""],
+        ["b.a", null, "@bo:example.org", {"body":"alice","n":7}, 3, "notify"]
+    ]"#,
+    );
+    let state = state(&rt, rt.alloc());
+    let mut rules = default_rules(&rt, rt.alloc());
+    put_all(&rt, rt.alloc(), &mut rules, &puts);
+    for row in list(&rt, &rows) {
+        assert!(&rt; is_said(&rt, rt.alloc(), &rules, &state, row));
+    }
+}
