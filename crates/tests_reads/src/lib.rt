@@ -1,0 +1,11 @@
+//! Tests of snapshots, of the state of rooms and of what users see, through their public items.
+#![tactic(auto)]
+
+#[cfg(test)]
+mod make;
+#[cfg(test)]
+mod others;
+#[cfg(test)]
+mod reads;
+#[cfg(test)]
+mod scans;
