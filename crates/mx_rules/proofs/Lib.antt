@@ -1,3 +1,4 @@
 pub mod Objects
 pub mod Putting
+pub mod ReadBack
 pub mod Readings

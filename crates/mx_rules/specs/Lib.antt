@@ -4,6 +4,7 @@ pub mod Defaults
 pub mod Edits
 pub mod Forms
 pub mod Judging
+pub mod Laws
 pub mod Reading
 pub mod Rules
 pub mod Writing

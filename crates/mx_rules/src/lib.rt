@@ -7,6 +7,7 @@ mod conditions;
 mod edits;
 mod fault;
 mod judging;
+mod laws;
 mod predefined;
 mod reading;
 mod rule;
@@ -14,6 +15,7 @@ mod rule_set;
 mod writing;
 
 pub use fault::{RuleFault, Side};
+pub use laws::content_reads_back;
 pub use predefined::defaults;
 pub use rule::{Kind, Rule, Test};
 pub use rule_set::RuleSet;
