@@ -1,9 +1,10 @@
 //! Runs of the program over sources, sinks and files in memory.
 use mx_ids::Memory;
-use mx_outside::{MemFile, MemFiles, MemSink, MemSource};
+use mx_outside::{MemFile, MemFiles, MemSink, MemSource, StepClock};
 use mx_serve::run;
 use std::alloc::Global;
 use std::process::Abort;
+use std::sync::Wait;
 use std::test::Fail;
 
 const USERS: &str = "\nserver example.org\n\nalice A1 tok_a1\nbob B1 tok_b1";
@@ -64,8 +65,8 @@ fn sink(alloc: Global, failing: u64) -> Result<MemSink, Memory> {
 }
 
 /// A run ends with this status, and writes this to the output and to the errors.
-fn expect(
-    rt: &impl Abort,
+fn expect<R: Abort + Wait>(
+    rt: &R,
     alloc: Global,
     case: &Case,
     status: u8,
@@ -77,8 +78,8 @@ fn expect(
 }
 
 /// The same of a run with these words.
-fn expect_by(
-    rt: &impl Abort,
+fn expect_by<R: Abort + Wait>(
+    rt: &R,
     alloc: Global,
     words: &[String],
     case: &Case,
@@ -90,15 +91,18 @@ fn expect_by(
     let mut input = source(alloc, case)?;
     let mut output = sink(alloc, case.failing_write)?;
     let mut errors = sink(alloc, NEVER)?;
-    let ended = run(
+    let mut clock = StepClock::new(1_700_000_000_000, 1);
+    let ran = run(
+        rt,
         alloc,
         words,
         &mut files,
         &mut input,
         &mut output,
         &mut errors,
+        &mut clock,
     );
-    assert_eq!(rt; ended, status);
+    assert_eq!(rt; ran.status.number(), status);
     assert!(rt; output.written() == written.as_bytes());
     assert!(rt; errors.written() == told.as_bytes());
     Ok(())
@@ -284,22 +288,40 @@ fn words_without_a_users_file_end_a_run(rt: HostRuntime) -> Result<(), Fail> {
 }
 
 /// A run with these users ends with status 3.
-fn refuses_users(rt: &impl Abort, alloc: Global, users: &str) -> Result<(), Memory> {
+fn refuses_users<R: Abort + Wait>(
+    rt: &R,
+    alloc: Global,
+    users: &str,
+    told: &str,
+) -> Result<(), Memory> {
     let case = Case {
         users,
         ..usual_case("")
     };
-    expect(rt, alloc, &case, 3, "", "mxsync: users file, line 0\n")
+    expect(rt, alloc, &case, 3, "", told)
 }
 
 #[test]
 fn a_users_file_with_a_line_of_another_form_ends_a_run(rt: HostRuntime) -> Result<(), Fail> {
     let alloc = rt.alloc();
-    refuses_users(&rt, alloc, "alice A1 tok_a1\n")?;
-    refuses_users(&rt, alloc, "server example.org\nalice A1\n")?;
-    refuses_users(&rt, alloc, "server example.org\nalice  A1 tok_a1\n")?;
-    refuses_users(&rt, alloc, "server example.org\nalice A1 t1\nalice A1 t2\n")?;
-    refuses_users(&rt, alloc, "server example.org\nalice A1 t1\nbob B1 t1\n")?;
+    let first = "mxsync: users file, line 1\n";
+    let second = "mxsync: users file, line 2\n";
+    let third = "mxsync: users file, line 3\n";
+    refuses_users(&rt, alloc, "alice A1 tok_a1\n", first)?;
+    refuses_users(&rt, alloc, "server example.org\nalice A1\n", second)?;
+    refuses_users(&rt, alloc, "server example.org\nalice  A1 tok_a1\n", second)?;
+    refuses_users(
+        &rt,
+        alloc,
+        "server example.org\nalice A1 t1\nalice A1 t2\n",
+        third,
+    )?;
+    refuses_users(
+        &rt,
+        alloc,
+        "server example.org\nalice A1 t1\nbob B1 t1\n",
+        third,
+    )?;
     Ok(())
 }
 
