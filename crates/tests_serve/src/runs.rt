@@ -248,6 +248,132 @@ fn refused_bodies(session: &mut Session) -> Result<(), Memory> {
     )
 }
 
+/// What is answered without a token, and what has no path, no method or no token.
+fn paths_and_tokens(session: &mut Session) -> Result<(), Memory> {
+    session.call("OPTIONS /any", "tok_x", "", "200 OK", "{}")?;
+    session.call(
+        "GET /_matrix/client/versions",
+        "tok_x",
+        "",
+        "200 OK",
+        r#"{"unstable_features":{},"versions":["v1.11"]}"#,
+    )?;
+    session.call(
+        "PUT /_matrix/client/versions",
+        "tok_a1",
+        "",
+        "405 Method Not Allowed",
+        r#"{"errcode":"M_UNRECOGNIZED","error":"no such method"}"#,
+    )?;
+    session.call(
+        "GET /_matrix/client/v3/none",
+        "tok_a1",
+        "",
+        "404 Not Found",
+        r#"{"errcode":"M_UNRECOGNIZED","error":"no such path"}"#,
+    )?;
+    session.call(
+        "GET /_matrix/client/v3/account/whoami",
+        "",
+        "",
+        "401 Unauthorized",
+        r#"{"errcode":"M_MISSING_TOKEN","error":"missing token"}"#,
+    )?;
+    session.call(
+        "GET /_matrix/client/v3/account/whoami",
+        "tok_b1",
+        "",
+        "200 OK",
+        r#"{"device_id":"B1","user_id":"@bob:example.org"}"#,
+    )
+}
+
+/// A room of alice at positions 1 to 6, a message that is sent twice in one transaction, and redactions with and without a target.
+fn room_by_calls(session: &mut Session) -> Result<(), Memory> {
+    session.call(
+        "POST /_matrix/client/v3/createRoom",
+        "tok_a1",
+        "{}",
+        "200 OK",
+        r#"{"room_id":"!0-1:example.org"}"#,
+    )?;
+    let send = "PUT /_matrix/client/v3/rooms/!0-1:example.org/send/m.room.message/t1";
+    let message = r#"{"body":"hi","msgtype":"m.text"}"#;
+    let sent = r#"{"event_id":"$7:example.org"}"#;
+    session.call(send, "tok_a1", message, "200 OK", sent)?;
+    session.call(send, "tok_a1", message, "200 OK", sent)?;
+    session.call(
+        "PUT /_matrix/client/v3/rooms/!0-1:example.org/redact/$99:example.org/t2",
+        "tok_a1",
+        "{}",
+        "404 Not Found",
+        r#"{"errcode":"M_NOT_FOUND","error":"not found"}"#,
+    )?;
+    session.call(
+        "PUT /_matrix/client/v3/rooms/!0-1:example.org/redact/$7:example.org/t3",
+        "tok_a1",
+        "{}",
+        "200 OK",
+        r#"{"event_id":"$8:example.org"}"#,
+    )?;
+    session.call(
+        "POST /_matrix/client/v3/createRoom",
+        "tok_a1",
+        r#"{"room_version":"10"}"#,
+        "400 Bad Request",
+        r#"{"errcode":"M_UNSUPPORTED_ROOM_VERSION","error":"unsupported room version"}"#,
+    )
+}
+
+/// A call on the room of alice that changes a membership.
+fn membership(
+    session: &mut Session,
+    call: &str,
+    bearer: &str,
+    body: &str,
+    status: &str,
+    text: &str,
+) -> Result<(), Memory> {
+    let line = format!(in session.alloc; "POST /_matrix/client/v3/rooms/!0-1:example.org/{call}")?;
+    session.call(line.as_str(), bearer, body, status, text)
+}
+
+/// Bob is refused, invited, joins, leaves, is banned and no more; each with a rule that refuses it at some time.
+fn memberships(session: &mut Session) -> Result<(), Memory> {
+    let bob = r#"{"user_id":"@bob:example.org"}"#;
+    let joined = r#"{"room_id":"!0-1:example.org"}"#;
+    let rule_3 = r#"{"errcode":"M_FORBIDDEN","error":"forbidden by rule 3"}"#;
+    let rule_5 = r#"{"errcode":"M_FORBIDDEN","error":"forbidden by rule 5"}"#;
+    membership(session, "join", "tok_b1", "{}", "403 Forbidden", rule_3)?;
+    membership(session, "invite", "tok_a1", bob, "200 OK", "{}")?;
+    membership(session, "join", "tok_b1", "", "200 OK", joined)?;
+    membership(session, "leave", "tok_b1", "{}", "200 OK", "{}")?;
+    membership(session, "unban", "tok_a1", bob, "403 Forbidden", rule_5)?;
+    membership(session, "ban", "tok_a1", bob, "200 OK", "{}")?;
+    membership(session, "join", "tok_b1", "{}", "403 Forbidden", rule_3)?;
+    membership(session, "unban", "tok_a1", bob, "200 OK", "{}")?;
+    membership(
+        session,
+        "kick",
+        "tok_a1",
+        "{}",
+        "400 Bad Request",
+        r#"{"errcode":"M_BAD_JSON","error":"bad JSON: user_id"}"#,
+    )
+}
+
+#[test]
+fn rooms_are_written_by_calls(rt: HostRuntime) -> Result<(), Fail> {
+    let alloc = rt.alloc();
+    let mut session = Session::new(alloc);
+    paths_and_tokens(&mut session)?;
+    room_by_calls(&mut session)?;
+    memberships(&mut session)?;
+    let case = usual_case(session.requests.as_str());
+    expect(&rt, alloc, &case, 0, session.answers.as_str(), "")?;
+    Ok(())
+}
+
 #[test]
 fn each_call_gets_its_answer_whatever_the_pieces(rt: HostRuntime) -> Result<(), Fail> {
     let alloc = rt.alloc();
