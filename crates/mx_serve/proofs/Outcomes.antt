@@ -1,48 +1,92 @@
 -- What a run did, in its parts.
 use Rattle.std.specs.declared.alloc.Global.{Global}
-use Rattle.std.proofs.Common.{◌≡◌, String, ℕ, ◌≤◌, ◌⊎◌, inl, inr, List, Option, Some, None, IfSome, length, refl, sym, ap, ◌∙◌, subst}
+use Rattle.std.specs.Io.KnownBytes.{Appends}
+use Rattle.std.proofs.Common.{◌≡◌, ◌↔◌, String, ℕ, zero, suc, ◌≤◌, ◌⊎◌, inl, inr, List, [], ◌∷◌, ◌++◌, take, Option, Some, None, Ok, Err, IfSome, length, refl, sym, ap, ◌∙◌, subst, arith}
+use Rattle.std.proofs.KnownBytes.{Appends-trans}
+use Rattle.mx_outside.specs.Causes.{Rose}
+use Rattle.mx_outside.specs.Moves.{IsLonger}
+use Rattle.mx_engine.specs.declared.held.EnginePass.{EnginePass}
 use Rattle.mx_ids.specs.declared.users.Users.{Users}
-use Rattle.mx_serve.specs.declared.connection.End.{End}
-use Rattle.mx_serve.specs.declared.connection.End.TheVariants as end
+use Rattle.mx_users.specs.UsersFile.{users_in}
+use Rattle.mx_serve.specs.Sessions.{AppendsPart, InputFaults, OutputFaults}
+use Rattle.mx_serve.specs.declared.ended.End.{End}
+use Rattle.mx_serve.specs.declared.ended.End.TheVariants as end
+use Rattle.mx_serve.specs.declared.ended.Ended.{Ended}
 use Rattle.mx_serve.specs.declared.session.Status.{Status}
 use Rattle.mx_serve.specs.declared.session.Status.TheVariants as status
-use Rattle.mx_serve.specs.Runs.{World, HasRisen, IsCause, Ran, RanOver, number_of, status_of, users_limit}
-use Rattle.mx_serve.specs.UsersFile.{users_of}
+use Rattle.mx_serve.specs.Runs.{Change, HasRisen, HasUsers, IsBroken, IsCause, IsRan, RanOver, Tells, World, status_of, users_limit}
+use Rattle.mx_serve.specs.Words.{AreWords}
+use Rattle.mx_serve.proofs.Served.{some-more}
 
 -- the users that were read are those of the file
 pub users_read : (told : Option (List ℕ)) (bytes slice : List ℕ) (users : Users) → IfSome told (λ held. bytes ≡ held) → slice ≡ bytes → length bytes ≤ users_limit
-    → users_of slice ≡ Some users → IfSome told (λ held. (length held ≤ users_limit) × (users_of held ≡ Some users))
+    → users_in slice ≡ Ok users → HasUsers told users
 users_read None bytes slice users held same within is = tt
-users_read (Some file) bytes slice users held same within is = (subst (λ b. length b ≤ users_limit) held within, ap users_of (sym (same ∙ held)) ∙ is)
+users_read (Some file) bytes slice users held same within is = (subst (λ b. length b ≤ users_limit) held within, ap users_in (sym (same ∙ held)) ∙ is)
 
--- a connection that ended with status 4 had a fault
-ended_outside : (w : World) (e : End) → (e ≡ end.ReadFault → HasRisen w.read_faults) → (e ≡ end.WriteFault → HasRisen w.write_faults) → number_of (status_of e) ≡ 4
-    → HasRisen w.read_faults ⊎ HasRisen w.write_faults
-ended_outside w end.Closed read write is = absurd cc
-ended_outside w end.Asked read write is = absurd cc
-ended_outside w end.Full read write is = absurd cc
-ended_outside w end.Cut read write is = absurd cc
-ended_outside w end.Refused read write is = absurd cc
-ended_outside w end.ReadFault read write is = inl (read refl)
-ended_outside w end.WriteFault read write is = inr (write refl)
-ended_outside w end.Memory read write is = absurd cc
+-- the line that was told is the file's
+pub line_read : (told : Option (List ℕ)) (bytes slice : List ℕ) (line : ℕ) → IfSome told (λ held. bytes ≡ held) → slice ≡ bytes → users_in slice ≡ Err line → IfSome told (λ held. IsBroken held line)
+line_read None bytes slice line held same is = tt
+line_read (Some file) bytes slice line held same is = inr (ap users_in (sym (same ∙ held)) ∙ is)
 
-cause_outside : (w : World) (name : List ℕ) (s : Status) → IsCause w name s → number_of s ≡ 4 → HasRisen w.file_faults
-cause_outside w name status.Done cause is = absurd cause
-cause_outside w name status.RequestStream cause is = absurd cause
-cause_outside w name status.Usage cause is = absurd cause
-cause_outside w name status.UsersFile cause is = absurd cc
-cause_outside w name status.Outside cause is = cause
-cause_outside w name status.Memory cause is = absurd cc
+-- a connection that ended with this status had a fault
+ended_outside : (reads writes : Change ℕ) (e : End) → InputFaults e reads.before reads.after → OutputFaults e writes.before writes.after → status_of e ≡ status.Outside → HasRisen reads ⊎ HasRisen writes
+ended_outside reads writes end.Closed i o is = absurd cc
+ended_outside reads writes end.Asked i o is = absurd cc
+ended_outside reads writes end.Full i o is = absurd cc
+ended_outside reads writes end.Cut i o is = absurd cc
+ended_outside reads writes end.Refused i o is = absurd cc
+ended_outside reads writes end.ReadFault i o is = inl i.1
+ended_outside reads writes end.WriteFault i o is = inr o.1
+ended_outside reads writes end.Memory i o is = absurd cc
 
-over_outside : (w : World) (name : List ℕ) (s : Status) → RanOver w name s → number_of s ≡ 4 → HasRisen w.file_faults ⊎ (HasRisen w.read_faults ⊎ HasRisen w.write_faults)
-over_outside w name s (inl r) is = inl (cause_outside w name s r.1 is)
-over_outside w name s (inr r) is = inr (ended_outside w r.ended r.read_cause r.write_cause (ap number_of (sym r.status_is) ∙ is))
+over_outside : (w : World) (name : List ℕ) (s : Status) (c : Option (Ended × EnginePass)) → RanOver w name s c → s ≡ status.Outside → HasRisen w.file_faults ⊎ (HasRisen w.read_faults ⊎ HasRisen w.write_faults)
+over_outside w name s None r is = inl (subst (IsCause (w.file name) w.file_faults) is r.1)
+over_outside w name s (Some c) r is = inr (ended_outside w.read_faults w.write_faults c.0.end r.2.read_faults r.2.write_faults (sym r.2.status_is ∙ is))
 
--- status 4 comes only where a count rose
-pub ran_outside : (words : List (String Global)) (w : World) (s : Status) → Ran words w s → number_of s ≡ 4 → HasRisen w.file_faults ⊎ (HasRisen w.read_faults ⊎ HasRisen w.write_faults)
-ran_outside words w s (inl r) is = absurd (usage_outside (ap number_of (sym r.0) ∙ is))
+-- the status `Outside` comes only where a count rose
+pub ran_outside : (words : List (String Global)) (w : World) (s : Status) (c : Option (Ended × EnginePass)) → IsRan words w s c → s ≡ status.Outside
+    → HasRisen w.file_faults ⊎ (HasRisen w.read_faults ⊎ HasRisen w.write_faults)
+ran_outside words w s c (inl r) is = absurd (other (sym r.0 ∙ is))
   where
-    usage_outside : ◌≡◌ {A = ℕ} 2 4 → ⊥
-    usage_outside e = cc
-ran_outside words w s (inr r) is = over_outside w r.0 s r.2 is
+    other : ◌≡◌ {A = Status} status.Usage status.Outside → ⊥
+    other e = cc
+ran_outside words w s c (inr r) is = over_outside w r.0 s c r.2 is
+
+ended_usage : (e : End) → status_of e ≡ status.Usage → ⊥
+ended_usage end.Closed is = cc
+ended_usage end.Asked is = cc
+ended_usage end.Full is = cc
+ended_usage end.Cut is = cc
+ended_usage end.Refused is = cc
+ended_usage end.ReadFault is = cc
+ended_usage end.WriteFault is = cc
+ended_usage end.Memory is = cc
+
+over_usage : (w : World) (name : List ℕ) (s : Status) (c : Option (Ended × EnginePass)) → RanOver w name s c → s ≡ status.Usage → ⊥
+over_usage w name s None r is = subst (IsCause (w.file name) w.file_faults) is r.1
+over_usage w name s (Some c) r is = ended_usage c.0.end (sym r.2.status_is ∙ is)
+
+-- the status `Usage` comes exactly where the words aren't of their form
+pub ran_usage : (words : List (String Global)) (w : World) (s : Status) (c : Option (Ended × EnginePass)) → IsRan words w s c → (s ≡ status.Usage) ↔ ((name : List ℕ) → AreWords words name → ⊥)
+ran_usage words w s c (inl r) = (λ is. r.3, λ none. r.0)
+ran_usage words w s c (inr r) = (λ is. absurd (over_usage w r.0 s c r.2 is), λ none. absurd (none r.0 r.1))
+
+-- a text that was put, and what tells the rest
+pub tells_more : (old mid new : Option (List ℕ)) (f g h : ℕ) (text more : List ℕ) → Appends old mid text → f ≤ g → Tells mid new g h more → Tells old new f h (text ++ more)
+tells_more old mid new f g h text more put count (inl r) = inl (Appends-trans old mid new text more put r)
+tells_more old mid new f g h text more put count (inr r) = let rose : Rose f h = omega (arith, count, r.0) in inr (rose, some-more old mid new text more put r.1)
+
+-- a part of a text is a part of a longer one
+take-part : (n : ℕ) (text more : List ℕ) → (m : ℕ) × (take n text ≡ take m (text ++ more))
+take-part zero text more = (0, refl)
+take-part (suc n) [] more = (0, refl)
+take-part (suc n) (x ∷ text) more = let rest = take-part n text more in (suc rest.0, ap (λ l. x ∷ l) rest.1)
+
+pub tells_part : (old new : Option (List ℕ)) (f h : ℕ) (text more : List ℕ) → AppendsPart old new text → Rose f h → Tells old new f h (text ++ more)
+tells_part old new f h text more p rose = let part = take-part p.0 text more in inr (rose, (part.0, subst (λ l. Appends old new l) part.1 p.1))
+
+-- a file that is too long
+pub too_long : (told : Option (List ℕ)) → IsLonger told users_limit → IfSome told (λ held. IsBroken held 0)
+too_long None h = tt
+too_long (Some file) h = inl (h, refl)

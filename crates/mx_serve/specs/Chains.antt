@@ -1,82 +1,49 @@
--- What a client of the replies to its syncs holds, and what it is to hold: the account data of its user at its token.
-use Rattle.std.specs.Prelude.{◌≡◌, ℕ, ◌&&◌, List, [], ◌∷◌, Bool, false, Option, Some, None, take, if◌then◌else◌, IfSome, nat_eq}
-use Rattle.std.specs.Option.{option_or}
-use Rattle.std.specs.Str.{bytes_eq}
-use Rattle.mx_ids.specs.declared.sync_token.SyncToken.{SyncToken}
-use Rattle.mx_ids.specs.declared.users.Users.{Users}
-use Rattle.mx_json.specs.declared.value.Json.{Json}
+-- *Chain*, of global account data, over the exchanges of a connection.
+use Rattle.std.specs.Prelude.{ℕ, List, [], ◌∷◌, None, IfSome}
+use Rattle.mx_core.specs.Covered.{covered}
 use Rattle.mx_http.specs.declared.call.Call.{Call}
-use Rattle.mx_account.specs.declared.entry.Entry.{Entry}
-use Rattle.mx_account.specs.Entries.{content_of, is_data_of}
-use Rattle.mx_serve.specs.declared.answered.Answered.{Answered}
-use Rattle.mx_serve.specs.declared.answered.Answered.TheVariants as answered
-use Rattle.mx_serve.specs.declared.answered.Reply.{Reply}
-use Rattle.mx_serve.specs.Answers.{answer_to, device_of, user_of}
-use Rattle.mx_serve.specs.Exchanges.{Exchange, exchanges, entries_after}
+use Rattle.mx_ids.specs.declared.users.Users.{Users}
+use Rattle.mx_engine.specs.Answers.{Lists, Stops, answer_to, counts}
+use Rattle.mx_engine.specs.Asked.{Site}
+use Rattle.mx_engine.specs.Chains.{Agrees, chain}
+use Rattle.mx_engine.specs.Exchanges.{first_of}
+use Rattle.mx_engine.specs.declared.answered.Answered.{Answered}
+use Rattle.mx_engine.specs.declared.answered.Counts.{Counts}
+use Rattle.mx_engine.specs.declared.answered.Mark.{Mark}
+use Rattle.mx_engine.specs.declared.ask.Request.{Request}
+use Rattle.mx_serve.specs.Asked.{call_asked}
+use Rattle.mx_serve.specs.Exchanges.{AreTurns}
+use Rattle.mx_serve.specs.declared.call_asked.CallAsked.{CallAsked}
+use Rattle.mx_serve.specs.declared.call_asked.CallAsked.TheVariants as call
 
--- the value at a key of account data
-abbrev pub content_at : List (List ℕ × Json) → List ℕ → Option Json
-content_at [] kind = None
-content_at (p ∷ ps) kind = if bytes_eq p.0 kind then Some p.1 else content_at ps kind
+abbrev pub with_request : CallAsked → List Request → List Request
+with_request call.Options rs = rs
+with_request call.Versions rs = rs
+with_request (call.Refused r) rs = rs
+with_request (call.Request r) rs = r ∷ rs
 
--- *Picture*, of a user's global account data: under a type the content of the last entry that has it
-abbrev pub last_content : List ℕ → List ℕ → List Entry → Option Json
-last_content user kind [] = None
-last_content user kind (e ∷ es) = option_or (last_content user kind es) (if is_data_of user None kind e then Some (content_of e) else None)
+-- what the calls ask of the engine
+abbrev pub requests_of : Users → List Call → List Request
+requests_of users [] = []
+requests_of users (c ∷ calls) = with_request (call_asked users c) (requests_of users calls)
 
--- *Client*: the token, and the content that it holds under each type
-pub record Client : Type 0 where
-  pub token : SyncToken
-  pub account : List ℕ → Option Json
+abbrev pub with_answer : Site → Lists → CallAsked → Mark → List Answered → List Answered
+with_answer site all call.Options m ans = ans
+with_answer site all call.Versions m ans = ans
+with_answer site all (call.Refused r) m ans = ans
+with_answer site all (call.Request r) m ans = record { said = answer_to site (first_of all (counts m)) m m.now r.who r.ask; mark = m } ∷ ans
 
--- a client of a first reply
-abbrev pub new_client : Reply → Client
-new_client r = record { token = r.next; account = λ kind. content_at r.account kind }
+-- what the engine answers to them, each on the lists at its mark
+abbrev pub answers_of : Site → Lists → List Call → List Mark → List Answered
+answers_of site all [] marks = []
+answers_of site all (c ∷ calls) [] = []
+answers_of site all (c ∷ calls) (m ∷ marks) = with_answer site all (call_asked site.users c) m (answers_of site all calls marks)
 
--- the client after a further reply: what is sent replaces what is held under its type
-abbrev pub after_reply : Client → Reply → Client
-after_reply c r = record { token = r.next; account = λ kind. option_or (content_at r.account kind) (c.account kind) }
+-- the client of a user's device, after the replies to its calls, agrees with the picture at its token
+abbrev pub ChainAgrees : Site → Lists → List Call → List Mark → Type 0
+ChainAgrees site all calls marks =
+    (user : List ℕ) (device : ℕ) → IfSome (chain user device None (requests_of site.users calls) (answers_of site all calls marks)) (Agrees user (covered all.accounts))
 
-abbrev pub same_token : SyncToken → SyncToken → Bool
-same_token s t = nat_eq s.e t.e && nat_eq s.r t.r && nat_eq s.a t.a && nat_eq s.d t.d && nat_eq s.b t.b
-
--- the client after a reply that follows this token
-abbrev pub continued : Option Client → Reply → SyncToken → Option Client
-continued None r since = None
-continued (Some c) r since = if same_token c.token since then Some (after_reply c r) else Some c
-
--- the client after a reply to its device: one without `since` begins anew, and one that follows another token is passed over
-abbrev pub with_reply : Option Client → Reply → Option SyncToken → Option Client
-with_reply client r None = Some (new_client r)
-with_reply client r (Some since) = continued client r since
-
--- the client after an answer to its device
-abbrev pub with_answer : Option Client → Answered → Option Client
-with_answer client (answered.Refused r) = client
-with_answer client (answered.Stored user kind content) = client
-with_answer client (answered.Synced r) = with_reply client r r.since
-
--- this is the device's call
-abbrev pub is_of_device : ℕ → Option ℕ → Bool
-is_of_device device None = false
-is_of_device device (Some caller) = nat_eq caller device
-
--- the client after an exchange
-abbrev pub with_exchange : Users → ℕ → Option Client → Exchange → Option Client
-with_exchange users device client x =
-    if x.memory then client
-    else (if is_of_device device (device_of users x.call) then with_answer client (answer_to users x.entries x.call) else client)
-
--- *Chain*: the client of a device after these exchanges, from what it was before them
-abbrev pub chain : Users → ℕ → Option Client → List Exchange → Option Client
-chain users device client [] = client
-chain users device client (x ∷ xs) = chain users device (with_exchange users device client x) xs
-
--- *Agrees*: under each type the client holds the content that the picture has at its token
-abbrev pub Agrees : Users → ℕ → List Entry → Client → Type 0
-Agrees users device entries c = (kind : List ℕ) → c.account kind ≡ last_content (user_of users device) kind (take c.token.a entries)
-
--- each device's chain agrees with the picture at its token
-abbrev pub ChainsAgree : Users → List Call → List Bool → Type 0
-ChainsAgree users calls marks =
-    (device : ℕ) → IfSome (chain users device None (exchanges users [] calls marks)) (Agrees users device (entries_after users [] calls marks))
+-- so it does whatever a connection is asked, and whatever others store in between
+abbrev pub ChainsAgree : Type 0
+ChainsAgree = (site : Site) (stops : Stops) (all : Lists) (before : Counts) (calls : List Call) (marks : List Mark) → AreTurns site stops all before calls marks → ChainAgrees site all calls marks

@@ -1,41 +1,41 @@
--- The exchanges of a connection: the calls in order, each with the entries that it is answered on.
-use Rattle.std.specs.Prelude.{ℕ, ◌+◌, ◌||◌, ◌==◌, List, [], ◌∷◌, ◌++◌, Bool, true, false, if◌then◌else◌, codes}
+-- The exchanges of a connection: the calls in order, each with the mark of its answer.
+use Rattle.std.specs.Prelude.{ℕ, ◌+◌, ◌||◌, ◌==◌, List, [], ◌∷◌, ◌++◌, Bool, true, false, codes}
 use Rattle.std.specs.Str.{bytes_eq}
-use Rattle.mx_ids.specs.declared.users.Users.{Users}
-use Rattle.mx_json.specs.Texts.{json_text}
-use Rattle.mx_http.specs.declared.call.Call.{Call}
 use Rattle.mx_http.specs.Answers.{response_bytes}
-use Rattle.mx_account.specs.declared.entry.Entry.{Entry}
-use Rattle.mx_serve.specs.Answers.{answer_to, stored_by}
-use Rattle.mx_serve.specs.Bodies.{status_by, json_by}
+use Rattle.mx_http.specs.declared.call.Call.{Call}
+use Rattle.mx_engine.specs.Answers.{Lists, Stops, counts, counts_of}
+use Rattle.mx_engine.specs.Asked.{Site}
+use Rattle.mx_engine.specs.Exchanges.{AtMost, first_of}
+use Rattle.mx_engine.specs.declared.answered.Counts.{Counts}
+use Rattle.mx_engine.specs.declared.answered.Mark.{Mark}
+use Rattle.mx_serve.specs.Answers.{KeepsCall, response_to}
+use Rattle.mx_serve.specs.Asked.{call_asked}
 
--- a call, the entries that stood when it was answered, and whether memory was wanting for its answer
-pub record Exchange : Type 0 where
-  pub call : Call
-  pub entries : List Entry
-  pub memory : Bool
+-- ---- marks
 
--- what an exchange leaves stored: nothing where memory was wanting
-abbrev pub after : Users → List Entry → Call → Bool → List Entry
-after users entries call true = entries
-after users entries call false = entries ++ stored_by entries (answer_to users entries call)
+-- one exchange: its mark keeps the law of what the call asks, from the lists at the mark before
+pub record IsExchange (site : Site) (stops : Stops) (all : Lists) (before : Counts) (call : Call) (m : Mark) : Type 0 where
+  pub later : AtMost before (counts m)
+  pub keeps : KeepsCall site stops (call_asked site.users call) m before (first_of all before) (first_of all (counts m))
 
--- the exchanges of these calls, from these entries
-abbrev pub exchanges : Users → List Entry → List Call → List Bool → List Exchange
-exchanges users entries [] marks = []
-exchanges users entries (call ∷ calls) [] = []
-exchanges users entries (call ∷ calls) (memory ∷ marks) =
-    record { call = call; entries = entries; memory = memory } ∷ exchanges users (after users entries call memory) calls marks
+-- each call has its mark, and each mark's lists begin the next mark's, and all the lists
+abbrev pub AreTurns : Site → Stops → Lists → Counts → List Call → List Mark → Type 0
+AreTurns site stops all before [] [] = AtMost before (counts_of all)
+AreTurns site stops all before (call ∷ calls) (m ∷ marks) = IsExchange site stops all before call m × AreTurns site stops all (counts m) calls marks
+AreTurns site stops all before (call ∷ calls) [] = ⊥
+AreTurns site stops all before [] (m ∷ marks) = ⊥
 
--- the entries that stand after them
-abbrev pub entries_after : Users → List Entry → List Call → List Bool → List Entry
-entries_after users entries [] marks = entries
-entries_after users entries (call ∷ calls) [] = entries
-entries_after users entries (call ∷ calls) (memory ∷ marks) = entries_after users (after users entries call memory) calls marks
+-- how many stores were seen at the last mark
+abbrev pub last_counts : Counts → List Mark → Counts
+last_counts before [] = before
+last_counts before (m ∷ marks) = last_counts (counts m) marks
 
--- the body of the answer for want of memory
-abbrev pub no_memory_text : List ℕ
-no_memory_text = codes "{\"errcode\":\"ORG_MXSYNC_NO_MEMORY\",\"error\":\"no memory\"}"
+-- the clock's reading at the last mark
+abbrev pub last_reading : ℕ → List Mark → ℕ
+last_reading reading [] = reading
+last_reading reading (m ∷ marks) = last_reading m.now marks
+
+-- ---- bytes
 
 -- so many requests are answered on one connection
 abbrev pub request_limit : ℕ
@@ -45,19 +45,18 @@ request_limit = 1000
 abbrev pub closes_after : ℕ → Call → Bool
 closes_after earlier call = call.close || (earlier + 1) == request_limit
 
--- the bytes of an answer, after so many others; to `HEAD` the body isn't written
-abbrev pub exchange_bytes : Users → ℕ → Exchange → List ℕ
-exchange_bytes users earlier x =
-    let head_only = bytes_eq x.call.method (codes "HEAD") in
-    let closes = closes_after earlier x.call in
-    let a = answer_to users x.entries x.call in
-    if x.memory then response_bytes 503 no_memory_text head_only closes
-    else response_bytes (status_by a) (json_text (json_by a)) head_only closes
+-- the bytes of the answer to a call, after so many others, on the lists at its mark; to `HEAD` the body isn't written
+abbrev pub answer_bytes : Site → Lists → ℕ → Call → Mark → List ℕ
+answer_bytes site lists earlier call m =
+    let a = response_to site lists m (call_asked site.users call) in
+    response_bytes a.status a.text (bytes_eq call.method (codes "HEAD")) (closes_after earlier call)
 
--- the bytes of all of them
-abbrev pub exchanges_bytes : Users → ℕ → List Exchange → List ℕ
-exchanges_bytes users earlier [] = []
-exchanges_bytes users earlier (x ∷ xs) = exchange_bytes users earlier x ++ exchanges_bytes users (earlier + 1) xs
+-- the bytes of all the answers, each on the first stores that its mark counts
+abbrev pub exchanges_bytes : Site → Lists → ℕ → List Call → List Mark → List ℕ
+exchanges_bytes site all earlier [] marks = []
+exchanges_bytes site all earlier (call ∷ calls) [] = []
+exchanges_bytes site all earlier (call ∷ calls) (m ∷ marks) =
+    answer_bytes site (first_of all (counts m)) earlier call m ++ exchanges_bytes site all (earlier + 1) calls marks
 
 -- the bytes of the answer to what is no request
 abbrev pub bad_request_bytes : List ℕ

@@ -1,13 +1,8 @@
 pub mod Words
-pub mod UsersFile
-pub mod Refusals
-pub mod Routes
-pub mod Queries
-pub mod Parameters
-pub mod Entries
+pub mod Asked
 pub mod Answers
-pub mod Bodies
 pub mod Exchanges
+pub mod Rooms
 pub mod Chains
 pub mod Sessions
 pub mod Steps

@@ -1,20 +1,16 @@
 //! One connection of the homeserver: its requests, their answers, and a run of the program over them.
 #![tactic(auto)]
 
-mod answer;
-mod answered;
-mod asked;
-mod body;
+mod call_asked;
 mod chains;
 mod connection;
-mod entries;
-mod refusal;
+mod ended;
 mod respond;
 mod session;
-mod sync_query;
-mod texts;
-mod users_file;
 mod words;
 
+pub use call_asked::Routes;
 pub use chains::chains_agree;
-pub use session::{Status, run, tell};
+pub use connection::serve_connection;
+pub use ended::{End, Ended};
+pub use session::{Ran, Status, run, tell};

@@ -1,55 +1,130 @@
-//! What a call is answered, and what it leaves stored.
-ghost use Rattle.std.specs.Prelude.{◌≡◌, ◌+◌, ◌<◌, ◌^◌, ◌++◌, IfOk, OnOk, OnErr, length};
-ghost use Rattle.mx_ids.specs.Users.{IsUsers};
-ghost use Rattle.mx_json.specs.Texts.{json_text};
+//! The answer to a call.
+ghost use Rattle.std.specs.Prelude.{◌≡◌, IfOk};
+ghost use Rattle.mx_api.specs.Errors.{refused_json, refused_status};
+ghost use Rattle.mx_engine.specs.Answers.{IsAnswered, reading};
+ghost use Rattle.mx_engine.specs.Shown.{Ties, lists_of, site_of, stops_of};
 ghost use Rattle.mx_http.specs.Answers.{body_text};
-ghost use Rattle.mx_serve.specs.Answers.{answer_to, stored_by};
-ghost use Rattle.mx_serve.specs.Bodies.{json_by, status_by};
+ghost use Rattle.mx_json.specs.Texts.{json_text};
+ghost use Rattle.mx_serve.specs.Asked.{IsCallAsked, call_asked};
+ghost use Rattle.mx_serve.specs.Steps.{Responds, Renders};
 
-use crate::answer::answer_to;
-use crate::answered::Answered;
-use crate::body::{refusal_json, reply_json};
-use crate::entries::Entries;
+use crate::call_asked::{CallAsked, Routes};
+use mx_api::{Refused, refused_json};
+use mx_engine::{Answered, Engine, EnginePass, Mark, Request};
 use mx_http::{Answer, Body, Call};
-use mx_ids::{Memory, Users};
-use mx_json::{Json, Members};
+use mx_ids::Memory;
+use mx_render::{no_memory, render};
+use mx_users::Directory;
+use mx_writers::Gate;
 use std::alloc::Global;
+use std::sync::Wait;
 
-/// Answers a call on the stored entries, and stores the account data of a put behind them. `Memory` leaves the
-/// entries as they were.
-pub fn respond(
+/// The answer to a call, and its mark.
+#[derive(Drop)]
+pub struct Reply {
+    pub answer: Answer,
+    pub mark: Mark,
+}
+
+/// Answers a call, on what the pass has then seen. Waits for turns at the streams.
+pub fn respond<G: Gate + Drop, R: Wait>(
+    rt: &R,
     alloc: Global,
-    users: &Users,
-    entries: &mut Entries,
+    engine: &Engine<G>,
+    routes: &Routes,
+    pass: &mut EnginePass,
     call: &Call,
-) -> Result<Answer, Memory>
-    requires users { IsUsers users.now }
-    requires few { length entries.old + 1 < 2 ^ 48 }
-    ensures status { IfOk result (λ a. a.status ≡ status_by (answer_to users.now entries.old call.now)) }
-    ensures body { IfOk result (λ a. body_text a.body ≡ json_text (json_by (answer_to users.now entries.old call.now))) }
-    ensures stored { OnOk result (entries.new ≡ entries.old ++ stored_by entries.old (answer_to users.now entries.old call.now)) }
-    ensures same { OnErr result (entries.new ≡ entries.old) }
+    now: u64,
+) -> Reply
+    requires ties { Ties engine.now pass.old }
+    ensures ties { Ties engine.now pass.new }
+    ensures responds { Responds (site_of engine.now) (stops_of engine.now) (call_asked engine.now.users call.now) now (lists_of pass.old) (lists_of pass.new) result.mark result.answer.status (body_text result.answer.body) }
 {
-    match answer_to(alloc, users, entries, call)? {
-        Answered::Refused(refusal) => Ok(Answer {
-            status: refusal.status(),
-            body: Body::Json(refusal_json(alloc, refusal)?),
-        }),
-        Answered::Stored {
-            user,
-            kind,
-            content,
-        } => {
-            let object = Json::Object(Members::new(alloc));
-            entries.store(alloc, user, kind, content)?;
-            Ok(Answer {
-                status: 200,
-                body: Body::Json(object),
-            })
+    match routes.ask(alloc, call, engine.users()) {
+        Ok(asked) => respond_to(rt, alloc, engine, pass, asked, now),
+        Err(_) => idle(pass, no_memory(), now, true),
+    }
+}
+
+/// Answers what a call asks.
+fn respond_to<G: Gate + Drop, R: Wait>(
+    rt: &R,
+    alloc: Global,
+    engine: &Engine<G>,
+    pass: &mut EnginePass,
+    asked: CallAsked,
+    now: u64,
+) -> Reply
+    requires ties { Ties engine.now pass.old }
+    requires ask { IsCallAsked asked }
+    ensures ties { Ties engine.now pass.new }
+    ensures responds { Responds (site_of engine.now) (stops_of engine.now) asked now (lists_of pass.old) (lists_of pass.new) result.mark result.answer.status (body_text result.answer.body) }
+{
+    match asked {
+        CallAsked::Options => idle(pass, fixed(b"{}"), now, false),
+        CallAsked::Versions => {
+            let versions = fixed(b"{\"unstable_features\":{},\"versions\":[\"v1.11\"]}");
+            idle(pass, versions, now, false)
         }
-        Answered::Synced(reply) => Ok(Answer {
-            status: 200,
-            body: Body::Json(reply_json(alloc, reply)?),
-        }),
+        CallAsked::Refused(refused) => match refusal(alloc, refused) {
+            Ok(answer) => idle(pass, answer, now, false),
+            Err(_) => idle(pass, no_memory(), now, true),
+        },
+        CallAsked::Request(Request { who, ask }) => {
+            let answered = engine.answer(rt, alloc, pass, &who, ask, now);
+            rendered(alloc, engine.users(), answered)
+        }
+    }
+}
+
+/// An answer for which the engine isn't asked, with the mark of one that writes nothing.
+fn idle(pass: &EnginePass, answer: Answer, now: u64, memory: bool) -> Reply
+    ensures answer { result.answer ≡ answer }
+    ensures mark { result.mark ≡ record (reading now (lists_of pass.now)) { memory = memory } }
+{
+    let mark = pass.mark(now);
+    Reply {
+        answer,
+        mark: Mark { memory, ..mark },
+    }
+}
+
+/// What the engine answers, as an answer of the protocol. Where there is no room for its body the mark says that memory was
+/// wanting.
+fn rendered(alloc: Global, directory: &Directory, answered: Answered) -> Reply
+    ensures { Renders directory.now.server answered result.mark result.answer.status (body_text result.answer.body) }
+{
+    let Answered { said, mark } = answered;
+    match render(alloc, directory.users().server.as_str(), said) {
+        Ok(answer) => Reply { answer, mark },
+        Err(_) => Reply {
+            answer: no_memory(),
+            mark: Mark {
+                memory: true,
+                ..mark
+            },
+        },
+    }
+}
+
+/// A refusal (Client-Server API, Standard error response).
+fn refusal(alloc: Global, refused: Refused) -> Result<Answer, Memory>
+    ensures status { IfOk result (λ a. a.status ≡ refused_status refused) }
+    ensures body { IfOk result (λ a. body_text a.body ≡ json_text (refused_json refused)) }
+{
+    Ok(Answer {
+        status: refused.status(),
+        body: Body::Json(refused_json(alloc, refused)?),
+    })
+}
+
+/// A body that is always the same, with status 200.
+fn fixed(body: &'static [u8]) -> Answer
+    ensures status { result.status ≡ 200 }
+    ensures body { body_text result.body ≡ body.now }
+{
+    Answer {
+        status: 200,
+        body: Body::Fixed(body),
     }
 }

@@ -2,7 +2,7 @@
 #![tactic(auto)]
 
 use mx_ids::Memory;
-use mx_outside::{HostFiles, StdErr, StdIn, StdOut};
+use mx_outside::{HostClock, HostFiles, StdErr, StdIn, StdOut};
 use mx_serve::{Status, run, tell};
 use std::env;
 use std::io::ErrorKind;
@@ -12,21 +12,23 @@ fn main(rt: HostRuntime) -> ExitCode {
     let mut errors = StdErr::new(rt.stderr());
     let Ok(words) = program_words(&rt) else {
         tell(&mut errors, Status::Memory);
-        return ExitCode::from(Status::Memory as u8);
+        return ExitCode::from(Status::Memory.number());
     };
     let mut files = HostFiles::new(rt);
     let mut input = StdIn::new(rt.stdin());
     let mut output = StdOut::new(rt.stdout());
-    let alloc = rt.alloc();
-    let status = run(
-        alloc,
+    let mut clock = HostClock::new(rt);
+    let ran = run(
+        &rt,
+        rt.alloc(),
         words.as_slice(),
         &mut files,
         &mut input,
         &mut output,
         &mut errors,
+        &mut clock,
     );
-    ExitCode::from(status)
+    ExitCode::from(ran.status.number())
 }
 
 /// The words after the program's name. One that isn't UTF-8 makes the whole no words at all.

@@ -1,5 +1,5 @@
-use Rattle.mx_serve.proofs.Agreement.{chain_agrees}
+use Rattle.mx_serve.proofs.Chaining.{chains_of}
 use Rattle.mx_serve.proofs.chains.chains_agree.Goals as goal
 
 pub returns : goal.returns
-returns c = chain_agrees
+returns c = chains_of c.chains_agree.ensures
