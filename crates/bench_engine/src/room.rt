@@ -94,7 +94,15 @@ fn send_all<R: Wait>(
     ensures ties { Ties engine.now pass.new }
 {
     'sends: for number in 0..count {
-        send(rt, alloc, engine, pass, who, room, u64::from(first) + u64::from(number))?;
+        send(
+            rt,
+            alloc,
+            engine,
+            pass,
+            who,
+            room,
+            u64::from(first) + u64::from(number),
+        )?;
     }
     Ok(())
 }

@@ -5,10 +5,6 @@ use Rattle.std.specs.Cmp.Lexicographic.{slice_cmp}
 use Rattle.std.specs.Ordering.{match_ordering}
 use Rattle.mx_json.specs.declared.value.Json.{Json}
 use Rattle.mx_ids.specs.declared.room_id.RoomId.{RoomId}
-use Rattle.std.proofs.lemmas.List.Elements.{filter-append}
-use Rattle.std.proofs.lemmas.List.Sums.{fold-append}
-use Rattle.mx_core.specs.declared.history.Stored.{Stored}
-use Rattle.mx_core.specs.History.{items_of}
 use Rattle.mx_account.specs.declared.entry.Entry.{Entry}
 use Rattle.mx_account.specs.declared.entry.Entry.TheVariants as entry
 use Rattle.mx_account.specs.Entries.{is_of, pair_now, pair_of, same_room}
@@ -46,15 +42,6 @@ one_entry user room known made e es is = ap (λ m. fold set_entry m (filter (is_
         ≡ fold set_entry known (cond b (e ∷ filter (is_of user room) es) (filter (is_of user room) es))
     chosen true = refl
     chosen false = refl
-
--- the stores from one on, whose entries are taken first
-pub one_store : (user : List ℕ) (room : Option RoomId) (known made : List (List ℕ × Json)) (s : Stored Entry) (ss : List (Stored Entry))
-    → made ≡ fold set_entry known (filter (is_of user room) s.items)
-    → fold set_entry made (filter (is_of user room) (items_of ss)) ≡ fold set_entry known (filter (is_of user room) (items_of (s ∷ ss)))
-one_store user room known made s ss is =
-    ap (λ m. fold set_entry m (filter (is_of user room) (items_of ss))) is
-    ∙ sym (fold-append set_entry known (filter (is_of user room) s.items) (filter (is_of user room) (items_of ss)))
-    ∙ ap (fold set_entry known) (sym (filter-append (is_of user room) s.items (items_of ss)))
 
 -- what is at a type and a content, where an entry has them
 set_known : (known : List (List ℕ × Json)) (kind : List ℕ) (content : Json) (b : Bool) (own_kind : List ℕ) (own : Json) → ◌≡◌ {A = Option (List ℕ × Json)} (Some (kind, content)) (cond b (Some (own_kind, own)) None)

@@ -1,38 +1,16 @@
-//! The account data that stores of entries set.
+//! The account data that entries set.
 
-ghost use Rattle.std.specs.Prelude.{◌≡◌, IfOk, OnOk, drop, filter, fold, map, if◌then◌else◌};
+ghost use Rattle.std.specs.Prelude.{◌≡◌, IfOk, OnOk, drop, map, if◌then◌else◌};
 ghost use Rattle.std.specs.Option.{option_copied};
-ghost use Rattle.mx_core.specs.History.{items_of};
 ghost use Rattle.mx_account.specs.Entries.{is_of, pair_now};
 ghost use Rattle.mx_account.specs.Data.{data_of, set_entry};
 
 use crate::entry::Entry;
-use mx_core::Stored;
 use mx_ids::{Copied, Memory, RoomId, Seq, Text, UserId};
 use mx_json::Json;
 use mx_lanes::Parts;
 use std::alloc::Global;
 use std::collections::BTreeMap;
-
-/// A user's account data of a room, or its global ones where there is no room, as these stores set them: under each
-/// type the last content, in byte order of types (Client-Server API, Client Config). Each content that is answered is
-/// copied once.
-#[tactic(auto, using(crate::proofs::Latest::one_store))]
-pub fn data_of(
-    alloc: Global,
-    user: &UserId,
-    room: Option<&RoomId>,
-    stores: &[Stored<Entry>],
-) -> Result<Seq<(Text, Json)>, Memory>
-    ensures { IfOk result (λ made. made ≡ data_of user.now (option_copied room.entry) (items_of stores.now)) }
-{
-    let wanted = room.copied();
-    let mut latest: BTreeMap<&Text, &Json> = BTreeMap::new(alloc);
-    'stores: for store in stores {
-        set_entries(&mut latest, user, wanted, store.items.as_slice())?;
-    }
-    copies(alloc, &latest)
-}
 
 /// A user's account data of a room, or its global ones where there is no room, as the entries at the positions after one
 /// set them: under each type the last content, in byte order of types (Client-Server API, Client Config). Each content that
@@ -56,22 +34,6 @@ pub fn data_after(
         }
     }
     copies(alloc, &latest)
-}
-
-/// Sets the contents of entries under their types, where they are of the user and room.
-#[tactic(auto, using(crate::proofs::Latest::one_entry))]
-fn set_entries<'a>(
-    latest: &mut BTreeMap<&'a Text, &'a Json>,
-    user: &UserId,
-    room: Option<RoomId>,
-    entries: &'a [Entry],
-) -> Result<(), Memory>
-    ensures { OnOk result (map pair_now latest.new.entries ≡ fold set_entry (map pair_now latest.old.entries) (filter (is_of user.now room) entries.now)) }
-{
-    'entries: for entry in entries {
-        set_entry(latest, user, room, entry)?;
-    }
-    Ok(())
 }
 
 /// Sets the content of an entry under its type, if it is of the user and room.

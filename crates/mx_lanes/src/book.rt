@@ -126,13 +126,6 @@ impl<I: Drop> Book<I> {
     {
         self.history.len() as u64
     }
-
-    /// The stores, in the order in which they were made. Takes no memory.
-    pub fn history(&self) -> &[Stored<I>]
-        ensures { result.now ≡ self.now.history }
-    {
-        &self.history
-    }
 }
 
 impl<I: Copied> Book<I> {
