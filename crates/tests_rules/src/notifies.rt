@@ -40,10 +40,11 @@ fn name_of(said: Option<bool>) -> &'static str {
 fn is_said(rt: &impl Abort, alloc: Global, rules: &RuleSet, state: &AuthState, row: &Json) -> bool {
     let me = json(rt, alloc, r#"["@al:example.org", "Al Name"]"#);
     let user = user_in(rt, alloc, &me, 0);
+    let name = at(rt, &me, 1).as_text();
     let event = event(rt, alloc, row);
     let context = Context {
         user: &user,
-        name: at(rt, &me, 1).as_text(),
+        name,
         joined: at(rt, row, 4)
             .as_int()
             .expect(rt, "a number")
