@@ -1,6 +1,6 @@
 //! A room that messages are sent to.
 
-ghost use Rattle.std.specs.Prelude.{◌≡◌};
+ghost use Rattle.std.specs.Prelude.{◌≡◌, Some, IfOk, slice_get};
 ghost use Rattle.mx_engine.specs.Shown.{Ties};
 
 use mx_create::wrong_field;
@@ -132,7 +132,10 @@ fn send<R: Wait>(
     }
 }
 
-fn txn(alloc: Global, room: &Text, number: u64) -> Result<Txn, Memory> {
+/// A transaction of this number that sends a message to the room.
+fn txn(alloc: Global, room: &Text, number: u64) -> Result<Txn, Memory>
+    ensures { IfOk result (λ t. slice_get t.path 0 ≡ Some room.now) }
+{
     let mut path = Seq::new(alloc);
     path.push(room.copy(alloc)?)?;
     path.push(text(alloc, "send")?)?;

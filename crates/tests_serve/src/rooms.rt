@@ -2,7 +2,7 @@
 ghost use Rattle.std.specs.Prelude.{◌≡◌, ◌≤◌};
 
 use crate::make::{sink, source, usual_case};
-use crate::sessions::{holds, holds_by, session};
+use crate::sessions::{holds, holds_by, read_table};
 use crate::tables::{CREATE, LEVELS, MEMBERS, REFUSED, ROOM};
 use mx_engine::{Setup, engine};
 use mx_ids::Memory;
@@ -149,7 +149,7 @@ fn is_full<R: Abort + Wait>(rt: &R, alloc: Global) -> Result<bool, Memory> {
     };
     let (engine, mut pass) = engine(alloc, setup, Open)?;
     let routes = Routes::new(alloc)?;
-    let session = session(alloc, FULL)?;
+    let session = read_table(alloc, FULL)?;
     let case = usual_case(session.requests.as_str());
     let mut input = source(alloc, &case)?;
     let mut output = sink(alloc, case.failing_write)?;

@@ -14,7 +14,7 @@ pub struct Session {
 }
 
 /// The session of a table.
-pub fn session(alloc: Global, table: &str) -> Result<Session, Memory> {
+pub fn read_table(alloc: Global, table: &str) -> Result<Session, Memory> {
     let mut session = Session {
         requests: String::new(alloc),
         answers: String::new(alloc),
@@ -86,7 +86,7 @@ pub fn holds_by<R: Abort + Wait>(
     table: &str,
     piece: usize,
 ) -> Result<(), Memory> {
-    let session = session(alloc, table)?;
+    let session = read_table(alloc, table)?;
     let case = Case {
         piece,
         ..usual_case(session.requests.as_str())
