@@ -41,21 +41,31 @@ fn add_call(alloc: Global, requests: &mut String, line: &str) -> Result<(), Memo
     let (method, rest) = cut(line);
     let (path, rest) = cut(rest);
     let (token, body) = cut(rest);
-    let base = if path.starts_with("/_matrix") {
-        ""
-    } else {
-        "/_matrix/client/v3"
-    };
-    let size = body.len();
-    let head = format!(in alloc; "{method} {base}{path} HTTP/1.1\r\nContent-Length: {size}\r\n")?;
-    requests.push_str(head.as_str())?;
+    requests.push_str(head_of(alloc, method, path, body.len())?.as_str())?;
     if token != "-" {
-        let field = format!(in alloc; "Authorization: Bearer {token}\r\n")?;
-        requests.push_str(field.as_str())?;
+        requests.push_str(token_field(alloc, token)?.as_str())?;
     }
     requests.push_str("\r\n")?;
     requests.push_str(body)?;
     Ok(())
+}
+
+/// What stands before a path.
+fn base_of(path: &str) -> &'static str {
+    if path.starts_with("/_matrix") {
+        ""
+    } else {
+        "/_matrix/client/v3"
+    }
+}
+
+fn head_of(alloc: Global, method: &str, path: &str, size: usize) -> Result<String, Memory> {
+    let base = base_of(path);
+    Ok(format!(in alloc; "{method} {base}{path} HTTP/1.1\r\nContent-Length: {size}\r\n")?)
+}
+
+fn token_field(alloc: Global, token: &str) -> Result<String, Memory> {
+    Ok(format!(in alloc; "Authorization: Bearer {token}\r\n")?)
 }
 
 fn add_answer(alloc: Global, answers: &mut String, line: &str) -> Result<(), Memory> {
