@@ -2,30 +2,28 @@
 ghost use Rattle.std.specs.Prelude.{◌≡◌, List, ℕ};
 ghost use Rattle.std.specs.List.{list_any};
 ghost use Rattle.std.specs.Str.{bytes_eq};
-ghost use Rattle.mx_ids.specs.Ids.{IsRoomId, room_id_text};
-ghost use Rattle.mx_filter.specs.Passes.{event_passes, names_type, part_of, passes, passes_type, picks, room_passes, selects, type_passes, types_of, url_passes};
+ghost use Rattle.mx_ids.specs.Ids.{room_id_text};
+ghost use Rattle.mx_ids.specs.declared.room_id.RoomId.{RoomId};
+ghost use Rattle.mx_filter.specs.Passes.{event_passes, names_type, part_of, passes, passes_type, picks, selects, type_passes, types_of, url_passes};
 
 use crate::parts::{DataPart, EventFilter, Filter, Part, Selection, TypeFilter};
 use mx_event::Event;
 use mx_glob::{Same, glob};
-use mx_ids::{RoomId, Seq, Text, read_room_id};
+use mx_ids::{Seq, Text};
 
 impl Filter {
-    /// Whether the filter picks a room. Takes no memory.
-    pub fn picks(&self, room: &RoomId, server: &str) -> bool
-        requires { IsRoomId room.now }
-        ensures { result ≡ picks server.now self.now.selection room.now }
+    /// Whether the filter picks a room, by the text of its id. Takes no memory.
+    pub fn picks(&self, room: &str) -> bool
+        ensures { (server : List ℕ) (id : RoomId) → room.now ≡ room_id_text server id → result ≡ picks server self.now.selection id }
     {
-        let chosen = &self.selection;
-        room_passes(&chosen.rooms, &chosen.not_rooms, room, server)
+        selects(&self.selection.rooms, &self.selection.not_rooms, room)
     }
 
-    /// Whether an event passes, as one of this room. Takes no memory.
-    pub fn passes(&self, part: Part, room: &RoomId, event: &Event, server: &str) -> bool
-        requires { IsRoomId room.now }
-        ensures { result ≡ passes server.now self.now.selection part room.now event.now }
+    /// Whether an event passes, as one of the room of which this is the text of the id. Takes no memory.
+    pub fn passes(&self, part: Part, room: &str, event: &Event) -> bool
+        ensures { (server : List ℕ) (id : RoomId) → room.now ≡ room_id_text server id → result ≡ passes server self.now.selection part id event.now }
     {
-        self.selection.part(part).passes(room, event, server)
+        self.selection.part(part).passes(room, event)
     }
 
     /// Whether account data or a receipt of a type passes. Takes no memory.
@@ -58,13 +56,12 @@ impl Selection {
 }
 
 impl EventFilter {
-    fn passes(&self, room: &RoomId, event: &Event, server: &str) -> bool
-        requires { IsRoomId room.now }
-        ensures { result ≡ event_passes server.now self.now room.now event.now }
+    fn passes(&self, room: &str, event: &Event) -> bool
+        ensures { (server : List ℕ) (id : RoomId) → room.now ≡ room_id_text server id → result ≡ event_passes server self.now id event.now }
     {
         self.kinds.passes(event.kind.as_str())
-            && (sender_passes(self, event.sender.as_str())
-                && (room_passes(&self.rooms, &self.not_rooms, room, server)
+            && (selects(&self.senders, &self.not_senders, event.sender.as_str())
+                && (selects(&self.rooms, &self.not_rooms, room)
                     && url_passes(self.contains_url, event.has_url)))
     }
 }
@@ -91,16 +88,6 @@ fn names_type(entries: &Seq<Text>, kind: &str) -> bool
         .any(|entry| glob(Same::Exact, entry.as_str(), kind))
 }
 
-fn sender_passes(filter: &EventFilter, sender: &str) -> bool
-    ensures { result ≡ selects (bytes_eq sender.now) filter.now.senders filter.now.not_senders }
-{
-    !has_text(&filter.not_senders, sender)
-        && match &filter.senders {
-            Some(senders) => has_text(senders, sender),
-            None => true,
-        }
-}
-
 fn has_text(entries: &Seq<Text>, text: &str) -> bool
     ensures { result ≡ list_any (bytes_eq text.now) entries.now }
 {
@@ -110,37 +97,15 @@ fn has_text(entries: &Seq<Text>, text: &str) -> bool
         .any(|entry| text == entry.as_str())
 }
 
-fn room_passes(
-    wanted: &Option<Seq<Text>>,
-    unwanted: &Seq<Text>,
-    room: &RoomId,
-    server: &str,
-) -> bool
-    requires { IsRoomId room.now }
-    ensures { result ≡ room_passes server.now wanted.now unwanted.now room.now }
+/// Whether no entry of the one list is the text, and one of the other is, where that is there.
+fn selects(wanted: &Option<Seq<Text>>, unwanted: &Seq<Text>, text: &str) -> bool
+    ensures { result ≡ selects (bytes_eq text.now) wanted.now unwanted.now }
 {
-    !has_room(unwanted, room, server)
+    !has_text(unwanted, text)
         && match wanted {
-            Some(rooms) => has_room(rooms, room, server),
+            Some(entries) => has_text(entries, text),
             None => true,
         }
-}
-
-fn has_room(entries: &Seq<Text>, room: &RoomId, server: &str) -> bool
-    requires { IsRoomId room.now }
-    ensures { result ≡ list_any (bytes_eq (room_id_text server.now room.now)) entries.now }
-{
-    entries
-        .as_slice()
-        .iter()
-        .any(|entry| is_room(entry.as_str(), room, server))
-}
-
-fn is_room(text: &str, room: &RoomId, server: &str) -> bool
-    requires { IsRoomId room.now }
-    ensures { result ≡ bytes_eq (room_id_text server.now room.now) text.now }
-{
-    read_room_id(text, server) == Some(*room)
 }
 
 fn url_passes(wanted: Option<bool>, has_url: bool) -> bool

@@ -47,7 +47,7 @@ view_all {V} P vs id w mine others j x e = ⊎_elim (λ (t : (j ≡ id) × (w �
 abbrev opening_world : {I : Type 0} → Key → World I
 opening_world key = record {
   line = record { ticket = 0; serving = 0; slot = maybe.some (Some (empty key.writers)); ticket_of = λ t. 0 };
-  core = record { state = start key.writers (2 ^ 48); pen_of = λ k. 0; maker = 0; made = 0; over = λ k. false; room = λ k. 0 };
+  core = record { state = start key.writers (2 ^ 48); pen_of = λ k. 0; maker = 0; made = 0; over = λ k. false; space = λ k. 0 };
 }
 
 module _ {I : Type 0} (law : Law I) (key : Key) where
@@ -90,8 +90,8 @@ module _ {I : Type 0} (law : Law I) (key : Key) where
 
   pub draws_grow : (slots id n pk : ℕ) (m : Sat I) → m.0.who ≡ Pen pk → m.0.block ≡ None → m.0.fresh ≡ true → m.0.read < key.stop → 0 < n → n ≤ most_drawn → n ≤ m.0.reserve
       → Grows law key slots id m 2 (λ x. (x + n) % 2 ^ 64) (drew (step slots 2 n 0 maybe.none) m)
-  draws_grow slots id n pk m who free fresh below pos small room =
-      allowed slots id m.0 m.1 2 (λ x. (x + n) % 2 ^ 64) (drew (step slots 2 n 0 maybe.none) m) (λ w. draws law key slots n pk w id m.0 m.1 who free fresh below pos small room)
+  draws_grow slots id n pk m who free fresh below pos small space =
+      allowed slots id m.0 m.1 2 (λ x. (x + n) % 2 ^ 64) (drew (step slots 2 n 0 maybe.none) m) (λ w. draws law key slots n pk w id m.0 m.1 who free fresh below pos small space)
 
   pub puts_grow : (slots id t n : ℕ) (m : Sat I) (x : Stored I) (b : Held I) → m.1 ≡ (0, Some b) ∷ [] → m.0.turn ≡ Has t → m.0.who ≡ Pen x.writer
       → m.0.block ≡ block_at x.first (length x.items) → law x.writer m.0.own x.first x.items ≡ true → StandsFor (m.0.all ++ x ∷ []) b → n ≡ length m.0.all + 1
@@ -134,7 +134,7 @@ module _ {I : Type 0} (law : Law I) (key : Key) where
 
   pub draws_at : (slots id n pk : ℕ) (m : Sat I) → m.0.who ≡ Pen pk → m.0.block ≡ None → m.0.fresh ≡ true → m.0.read < key.stop → 0 < n → n ≤ most_drawn → n ≤ m.0.reserve
       → Allows (Ruled law key) slots id m 2 (λ x. (x + n) % 2 ^ 64) (drew (step slots 2 n 0 maybe.none) m)
-  draws_at slots id n pk m who free fresh below pos small room = step_of slots id m 2 (λ x. (x + n) % 2 ^ 64) (drew (step slots 2 n 0 maybe.none) m) (draws_grow slots id n pk m who free fresh below pos small room)
+  draws_at slots id n pk m who free fresh below pos small space = step_of slots id m 2 (λ x. (x + n) % 2 ^ 64) (drew (step slots 2 n 0 maybe.none) m) (draws_grow slots id n pk m who free fresh below pos small space)
 
   pub puts_at : (slots id t n : ℕ) (m : Sat I) (x : Stored I) (b : Held I) → m.1 ≡ (0, Some b) ∷ [] → m.0.turn ≡ Has t → m.0.who ≡ Pen x.writer
       → m.0.block ≡ block_at x.first (length x.items) → law x.writer m.0.own x.first x.items ≡ true → StandsFor (m.0.all ++ x ∷ []) b → n ≡ length m.0.all + 1
@@ -196,7 +196,7 @@ module _ {I : Type 0} (law : Law I) (key : Key) where
               ready = good.ready;
               kept = good.kept;
               most = omega (arith, few);
-              unmade = λ j le. let m = good.unmade j (omega (arith, is.1, le)) in record { stores = m.stores; block = m.block; over = m.over; room = m.room };
+              unmade = λ j le. let m = good.unmade j (omega (arith, is.1, le)) in record { stores = m.stores; block = m.block; over = m.over; space = m.space };
               stocked = good.stocked;
             };
             mine = record {
@@ -220,7 +220,7 @@ module _ {I : Type 0} (law : Law I) (key : Key) where
                   seat = change_here w.core.pen_of n size n refl;
                   own_is = sym u.stores;
                   block = u.block;
-                  room = u.room;
+                  space = u.space;
                   within = omega arith;
                   value = λ f o. absurd (true≢false (sym f));
                 });
@@ -250,7 +250,7 @@ module _ {I : Type 0} (law : Law I) (key : Key) where
             seat = change_else w.pen_of n size i (λ e. omega (arith, p.made, made, e)) ∙ p.seat;
             own_is = p.own_is;
             block = p.block;
-            room = p.room;
+            space = p.space;
             within = p.within;
             value = p.value;
           }
@@ -278,7 +278,7 @@ module _ {I : Type 0} (law : Law I) (key : Key) where
           hears = begins_shorter v.seen u.seen h k.core.sees q.core.sees;
           reads = omega (arith, k.core.reads, q.core.reads);
           plays = plays_on key w.core w.core id v (both v u) refl refl
-              (λ i p. record { made = p.made; seat = p.seat; own_is = p.own_is; block = p.block; room = p.room; within = p.within; value = λ f o. omega (arith, p.value f o) }) v.who k.core.plays;
+              (λ i p. record { made = p.made; seat = p.seat; own_is = p.own_is; block = p.block; space = p.space; within = p.within; value = λ f o. omega (arith, p.value f o) }) v.who k.core.plays;
         };
         queued = k.queued;
       })
@@ -310,8 +310,8 @@ module _ {I : Type 0} (law : Law I) (key : Key) where
         lawful = refl;
       };
       most = omega arith;
-      unmade = λ k le. record { stores = refl; block = block_at-start key.writers k; over = refl; room = refl };
-      stocked = record { stands = stands_empty key.writers; rooms = λ k. omega arith; count = length-replicate {A = ℕ} key.writers 0 };
+      unmade = λ k le. record { stores = refl; block = block_at-start key.writers k; over = refl; space = refl };
+      stocked = record { stands = stands_empty key.writers; spaces = λ k. omega arith; count = length-replicate {A = ℕ} key.writers 0 };
     };
     knows = first;
   }
@@ -331,7 +331,7 @@ steps_grow law key slots id m = record {
   looks = λ t has. looks_grow law key slots id t m has;
   reads = reads_grow law key slots id m;
   learns = learns_grow law key slots id m;
-  draws = λ n k d. draws_grow law key slots id n k m d.who d.free d.fresh d.below d.some_positions d.few d.room;
+  draws = λ n k d. draws_grow law key slots id n k m d.who d.free d.fresh d.below d.some_positions d.few d.space;
   puts = λ t n x b p. puts_grow law key slots id t n m x b p.hand p.turn p.who p.block p.lawful p.stands p.count p.lanes p.spent p.others;
   leaves = λ t b e. leaves_grow law key slots id t m b e.hand e.turn e.stands e.lanes e.spares;
 }

@@ -27,55 +27,55 @@ use Rattle.mx_front.specs.Told.{Sat, claimed, came, looking, looked, read_next, 
 use Rattle.mx_front.proofs.Queues.{turn_cases, claimed_line, other_ticket, came_line, left_line}
 use Rattle.mx_front.proofs.Worlds.{change, change_here, passed_le, held_few, begins_longer, begins_one}
 
--- the room that is set apart after a turn
-abbrev pub room_after : Role → (ℕ → ℕ) → List ℕ → ℕ → ℕ
-room_after (Pen k) room spares = change room k (get_or spares k 0)
-room_after who room spares = room
+-- the space that is set apart after a turn
+abbrev pub space_after : Role → (ℕ → ℕ) → List ℕ → ℕ → ℕ
+space_after (Pen k) space spares = change space k (get_or spares k 0)
+space_after who space spares = space
 
 module _ {I : Type 0} where
   -- a book at home
-  record AtHome (lanes : ℕ) (h : List (Stored I)) (room : ℕ → ℕ) (o : maybe.Option (Slot I)) : Type 0 where
+  record AtHome (lanes : ℕ) (h : List (Stored I)) (space : ℕ → ℕ) (o : maybe.Option (Slot I)) : Type 0 where
     pub book : Held I
     pub is : o ≡ maybe.some (Some book)
-    pub stands : Standing lanes h room book
+    pub stands : Standing lanes h space book
 
-  at_home : (lanes : ℕ) (h : List (Stored I)) (room : ℕ → ℕ) (o : maybe.Option (Slot I)) → IsHome o → Stocked lanes h room o → AtHome lanes h room o
-  at_home lanes h room maybe.none home s = absurd home
-  at_home lanes h room (maybe.some None) home s = absurd s
-  at_home lanes h room (maybe.some (Some b)) home s = record { book = b; is = refl; stands = s }
+  at_home : (lanes : ℕ) (h : List (Stored I)) (space : ℕ → ℕ) (o : maybe.Option (Slot I)) → IsHome o → Stocked lanes h space o → AtHome lanes h space o
+  at_home lanes h space maybe.none home s = absurd home
+  at_home lanes h space (maybe.some None) home s = absurd s
+  at_home lanes h space (maybe.some (Some b)) home s = record { book = b; is = refl; stands = s }
 
   -- what a seat knows of the queue, when another seat takes a ticket, takes the book, changes what it stands for, or gives it back
-  claimed_others : (lanes : ℕ) (l : Line (Held I)) (h : List (Stored I)) (room : ℕ → ℕ) (j id old : ℕ) (all : List (Stored I)) (spares : List ℕ) (turn : Turn) → l.ticket ≡ old
-      → Queued lanes l h room j all spares turn → Queued lanes (record l { ticket = old + 1; ticket_of = change l.ticket_of old id }) h room j all spares turn
-  claimed_others lanes l h room j id old all spares Idle e q = tt
-  claimed_others lanes l h room j id old all spares (Waits t) e q = claimed_line l j id old (Waits t) e q
-  claimed_others lanes l h room j id old all spares (Has t) e q = record { queue = claimed_line l j id old (Has t) e q.queue; whole = q.whole; rooms = q.rooms; count = q.count }
+  claimed_others : (lanes : ℕ) (l : Line (Held I)) (h : List (Stored I)) (space : ℕ → ℕ) (j id old : ℕ) (all : List (Stored I)) (spares : List ℕ) (turn : Turn) → l.ticket ≡ old
+      → Queued lanes l h space j all spares turn → Queued lanes (record l { ticket = old + 1; ticket_of = change l.ticket_of old id }) h space j all spares turn
+  claimed_others lanes l h space j id old all spares Idle e q = tt
+  claimed_others lanes l h space j id old all spares (Waits t) e q = claimed_line l j id old (Waits t) e q
+  claimed_others lanes l h space j id old all spares (Has t) e q = record { queue = claimed_line l j id old (Has t) e q.queue; whole = q.whole; spaces = q.spaces; count = q.count }
 
-  came_others : (lanes : ℕ) (l : Line (Held I)) (h : List (Stored I)) (room : ℕ → ℕ) (j id : ℕ) (all : List (Stored I)) (spares : List ℕ) (turn : Turn) → j ≢ id → l.ticket_of l.serving ≡ id
-      → Queued lanes l h room j all spares turn → Queued lanes (record l { slot = maybe.none }) h room j all spares turn
-  came_others lanes l h room j id all spares Idle ne is q = tt
-  came_others lanes l h room j id all spares (Waits t) ne is q = came_line l j id (Waits t) ne is q
-  came_others lanes l h room j id all spares (Has t) ne is q = absurd (other_ticket l j id t ne is q.queue.mine q.queue.turn)
+  came_others : (lanes : ℕ) (l : Line (Held I)) (h : List (Stored I)) (space : ℕ → ℕ) (j id : ℕ) (all : List (Stored I)) (spares : List ℕ) (turn : Turn) → j ≢ id → l.ticket_of l.serving ≡ id
+      → Queued lanes l h space j all spares turn → Queued lanes (record l { slot = maybe.none }) h space j all spares turn
+  came_others lanes l h space j id all spares Idle ne is q = tt
+  came_others lanes l h space j id all spares (Waits t) ne is q = came_line l j id (Waits t) ne is q
+  came_others lanes l h space j id all spares (Has t) ne is q = absurd (other_ticket l j id t ne is q.queue.mine q.queue.turn)
 
-  pub changed_others : (lanes : ℕ) (l : Line (Held I)) (h g : List (Stored I)) (room rooms : ℕ → ℕ) (j id : ℕ) (all : List (Stored I)) (spares : List ℕ) (turn : Turn) → j ≢ id → l.ticket_of l.serving ≡ id
-      → Queued lanes l h room j all spares turn → Queued lanes l g rooms j all spares turn
-  changed_others lanes l h g room rooms j id all spares Idle ne is q = tt
-  changed_others lanes l h g room rooms j id all spares (Waits t) ne is q = q
-  changed_others lanes l h g room rooms j id all spares (Has t) ne is q = absurd (other_ticket l j id t ne is q.queue.mine q.queue.turn)
+  pub changed_others : (lanes : ℕ) (l : Line (Held I)) (h g : List (Stored I)) (space spaces : ℕ → ℕ) (j id : ℕ) (all : List (Stored I)) (spares : List ℕ) (turn : Turn) → j ≢ id → l.ticket_of l.serving ≡ id
+      → Queued lanes l h space j all spares turn → Queued lanes l g spaces j all spares turn
+  changed_others lanes l h g space spaces j id all spares Idle ne is q = tt
+  changed_others lanes l h g space spaces j id all spares (Waits t) ne is q = q
+  changed_others lanes l h g space spaces j id all spares (Has t) ne is q = absurd (other_ticket l j id t ne is q.queue.mine q.queue.turn)
 
-  pub left_others : (lanes : ℕ) (l : Line (Held I)) (h : List (Stored I)) (room rooms : ℕ → ℕ) (j id t : ℕ) (b : Held I) (all : List (Stored I)) (spares : List ℕ) (turn : Turn) → j ≢ id
-      → l.ticket_of l.serving ≡ id → t ≡ l.serving → Queued lanes l h room j all spares turn
-      → Queued lanes (record l { serving = t + 1; slot = maybe.some (Some b) }) h rooms j all spares turn
-  left_others lanes l h room rooms j id t b all spares Idle ne is at q = tt
-  left_others lanes l h room rooms j id t b all spares (Waits u) ne is at q = left_line l j id t b (Waits u) ne is at q
-  left_others lanes l h room rooms j id t b all spares (Has u) ne is at q = absurd (other_ticket l j id u ne is q.queue.mine q.queue.turn)
+  pub left_others : (lanes : ℕ) (l : Line (Held I)) (h : List (Stored I)) (space spaces : ℕ → ℕ) (j id t : ℕ) (b : Held I) (all : List (Stored I)) (spares : List ℕ) (turn : Turn) → j ≢ id
+      → l.ticket_of l.serving ≡ id → t ≡ l.serving → Queued lanes l h space j all spares turn
+      → Queued lanes (record l { serving = t + 1; slot = maybe.some (Some b) }) h spaces j all spares turn
+  left_others lanes l h space spaces j id t b all spares Idle ne is at q = tt
+  left_others lanes l h space spaces j id t b all spares (Waits u) ne is at q = left_line l j id t b (Waits u) ne is at q
+  left_others lanes l h space spaces j id t b all spares (Has u) ne is at q = absurd (other_ticket l j id u ne is q.queue.mine q.queue.turn)
 
 module _ {I : Type 0} (key : Key) where
   pub pen_is : (w : Core I) (id : ℕ) (v : View I) (k : ℕ) → Knowing key w id v → v.who ≡ Pen k → PenOf key w id v.own v.block v.reserve v.read v.fresh k
   pen_is w id v k known is = subst (Plays key w id v.own v.block v.reserve v.read v.fresh) is known.plays
 
-  pub turn_is : (w : World I) (id : ℕ) (v : View I) (turn : Turn) → Knows key w id v → v.turn ≡ turn → Queued key.writers w.line w.core.state.history w.core.room id v.all v.spares turn
-  turn_is w id v turn k is = subst (Queued key.writers w.line w.core.state.history w.core.room id v.all v.spares) is k.queued
+  pub turn_is : (w : World I) (id : ℕ) (v : View I) (turn : Turn) → Knows key w id v → v.turn ≡ turn → Queued key.writers w.line w.core.state.history w.core.space id v.all v.spares turn
+  turn_is w id v turn k is = subst (Queued key.writers w.line w.core.state.history w.core.space id v.all v.spares) is k.queued
 
   -- a seat plays on where it plays a pen's part on
   pub plays_on : (w to : Core I) (j : ℕ) (v u : View I) → to.maker ≡ w.maker → to.made ≡ w.made
@@ -136,7 +136,7 @@ module _ {I : Type 0} (law : Law I) (key : Key) where
           ready = λ e. absurd (omega (arith, good.ordered, hit, e));
           kept = good.kept;
           most = good.most;
-          unmade = λ j le. let u = good.unmade j le in record { stores = u.stores; block = u.block; over = u.over; room = u.room };
+          unmade = λ j le. let u = good.unmade j le in record { stores = u.stores; block = u.block; over = u.over; space = u.space };
           stocked = good.stocked;
         };
         mine = record {
@@ -148,7 +148,7 @@ module _ {I : Type 0} (law : Law I) (key : Key) where
             home = λ e. good.ready (sym e);
           };
         };
-        others = λ j x ne q. record { core = q.core; queued = claimed_others key.writers w.line w.core.state.history w.core.room j id old x.all x.spares x.turn hit q.queued };
+        others = λ j x ne q. record { core = q.core; queued = claimed_others key.writers w.line w.core.state.history w.core.space j id old x.all x.spares x.turn hit q.queued };
         words = refl;
         homes = refl;
         grows = begins_self w.core.state.history;
@@ -166,7 +166,7 @@ module _ {I : Type 0} (law : Law I) (key : Key) where
     where
       takes_book : v.turn ≡ Waits w.line.serving → Waiting w.line id w.line.serving → Goes w id c 1 w.line.serving (came (step slots 1 0 0 maybe.none) (v, c) w.line.serving)
       takes_book is q =
-          let b = at_home key.writers w.core.state.history w.core.room w.line.slot (q.home refl) good.stocked in record {
+          let b = at_home key.writers w.core.state.history w.core.space w.line.slot (q.home refl) good.stocked in record {
             to = record w { line = record w.line { slot = maybe.none } };
             view = record v { turn = Has w.line.serving; all = w.core.state.history; spares = b.book.spare };
             act = takes 0 (Some b.book);
@@ -176,14 +176,14 @@ module _ {I : Type 0} (law : Law I) (key : Key) where
               ready = λ e. absurd (omega (arith, q.below, e));
               kept = good.kept;
               most = good.most;
-              unmade = λ j le. let u = good.unmade j le in record { stores = u.stores; block = u.block; over = u.over; room = u.room };
+              unmade = λ j le. let u = good.unmade j le in record { stores = u.stores; block = u.block; over = u.over; space = u.space };
               stocked = tt;
             };
             mine = record {
               core = record { bound = k.core.bound; sees = k.core.sees; hears = k.core.hears; reads = k.core.reads; plays = k.core.plays };
-              queued = record { queue = record { turn = refl; below = q.below; mine = q.mine; out = refl }; whole = refl; rooms = b.stands.rooms; count = b.stands.count };
+              queued = record { queue = record { turn = refl; below = q.below; mine = q.mine; out = refl }; whole = refl; spaces = b.stands.spaces; count = b.stands.count };
             };
-            others = λ j x ne q'. record { core = q'.core; queued = came_others key.writers w.line w.core.state.history w.core.room j id x.all x.spares x.turn ne q.mine q'.queued };
+            others = λ j x ne q'. record { core = q'.core; queued = came_others key.writers w.line w.core.state.history w.core.space j id x.all x.spares x.turn ne q.mine q'.queued };
             words = refl;
             homes = refl;
             grows = begins_self w.core.state.history;
@@ -193,7 +193,7 @@ module _ {I : Type 0} (law : Law I) (key : Key) where
                 all = w.core.state.history;
                 is = refl;
                 stands = b.stands.stands;
-                room = λ pk who. let p = pen_is key w.core id v pk k.core who in (omega (arith, p.room, b.stands.rooms pk), omega (arith, p.made, good.most, b.stands.count));
+                space = λ pk who. let p = pen_is key w.core id v pk k.core who in (omega (arith, p.space, b.stands.spaces pk), omega (arith, p.made, good.most, b.stands.count));
               },
               λ not. absurd (not is),
             );
@@ -203,7 +203,7 @@ module _ {I : Type 0} (law : Law I) (key : Key) where
   pub looks : (slots t : ℕ) (w : World I) (id : ℕ) (v : View I) (c : List (ℕ × Slot I)) → v.turn ≡ Has t → Good law key w → Knows key w id v
       → Goes w id c 3 (length w.core.state.history) (looked law (step slots 3 0 0 maybe.none) (v, c) (length w.core.state.history))
   looks slots t w id v c is good k =
-      let q : InTurn key.writers w.line w.core.state.history w.core.room id v.all v.spares t = turn_is key w id v (Has t) k is in
+      let q : InTurn key.writers w.line w.core.state.history w.core.space id v.all v.spares t = turn_is key w id v (Has t) k is in
       let s = w.core.state in
       let kept = good.kept in record {
         to = w;
@@ -263,7 +263,7 @@ module _ {I : Type 0} (law : Law I) (key : Key) where
             hears = k.core.hears;
             reads = omega arith;
             plays = plays_on key w.core w.core id v u refl refl
-                (λ pk p. record { made = p.made; seat = p.seat; own_is = p.own_is; block = p.block; room = p.room; within = p.within; value = λ f o. good.kept.over_is pk o }) v.who k.core.plays;
+                (λ pk p. record { made = p.made; seat = p.seat; own_is = p.own_is; block = p.block; space = p.space; within = p.within; value = λ f o. good.kept.over_is pk o }) v.who k.core.plays;
           };
           queued = k.queued;
         };

@@ -59,9 +59,9 @@ module _ {I : Type 0} (law : Law I) where
   -- a pen that has read the word below the stop may draw
   pub drawable : (key : Key) (slots id n pk r : ℕ) (m m1 : Sat I) → m1 ≡ (record m.0 { read = r; fresh = true }, m.1) → m.0.who ≡ Pen pk → m.0.block ≡ None → r < key.stop → 0 < n → n ≤ most_drawn → n ≤ m.0.reserve
       → Allows (Ruled law key) slots id m1 2 (λ x. (x + n) % 2 ^ 64) (drew (step slots 2 n 0 maybe.none) m1)
-  drawable key slots id n pk r m m1 is who free below pos small room =
+  drawable key slots id n pk r m m1 is who free below pos small space =
       subst (λ (y : Sat I). Allows (Ruled law key) slots id y 2 (λ x. (x + n) % 2 ^ 64) (drew (step slots 2 n 0 maybe.none) y)) (sym is)
-      (draws_at law key slots id n pk (record m.0 { read = r; fresh = true }, m.1) who free refl below pos small room)
+      (draws_at law key slots id n pk (record m.0 { read = r; fresh = true }, m.1) who free refl below pos small space)
 
   -- what a pass knows after a meeting
   pub record HasMet (v u : View I) (m : Sat I) : Type 0 where

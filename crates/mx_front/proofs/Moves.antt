@@ -22,7 +22,7 @@ use Rattle.mx_front.specs.Queue.{Line}
 use Rattle.mx_front.specs.World.{Slot, Core, World, Stocked, Good, InTurn, Queued, PenOf, Plays, Knows}
 use Rattle.mx_front.specs.Told.{block_at, drawing, drew, storing, put, reserve_in, leaving, left}
 use Rattle.mx_front.proofs.Worlds.{change, change_here, change_else, passing, stored_own, length_own}
-use Rattle.mx_front.proofs.Goes.{Goes, room_after, changed_others, left_others, pen_is, turn_is, plays_on, few_drawn}
+use Rattle.mx_front.proofs.Goes.{Goes, space_after, changed_others, left_others, pen_is, turn_is, plays_on, few_drawn}
 
 -- the book in hand
 module _ {I : Type 0} where
@@ -39,26 +39,26 @@ module _ {I : Type 0} (key : Key) where
   other_pen : (w : Core I) (j id k i : ℕ) → j ≢ id → w.pen_of i ≡ id → w.pen_of k ≡ j → k ≢ i
   other_pen w j id k i ne is at same = ne (sym at ∙ ap w.pen_of same ∙ is)
 
-  -- the room that is set apart, after a turn
-  room_else : (w : Core I) (id : ℕ) (v : View I) (spares : List ℕ) (k : ℕ) → ((i : ℕ) → PenOf key w id v.own v.block v.reserve v.read v.fresh i → k ≢ i)
-      → (who : Role) → Plays key w id v.own v.block v.reserve v.read v.fresh who → room_after who w.room spares k ≡ w.room k
-  room_else w id v spares k other Reader p = refl
-  room_else w id v spares k other (Maker i) p = refl
-  room_else w id v spares k other (Pen i) p = change_else w.room i (get_or spares i 0) k (other i p)
+  -- the space that is set apart, after a turn
+  space_else : (w : Core I) (id : ℕ) (v : View I) (spares : List ℕ) (k : ℕ) → ((i : ℕ) → PenOf key w id v.own v.block v.reserve v.read v.fresh i → k ≢ i)
+      → (who : Role) → Plays key w id v.own v.block v.reserve v.read v.fresh who → space_after who w.space spares k ≡ w.space k
+  space_else w id v spares k other Reader p = refl
+  space_else w id v spares k other (Maker i) p = refl
+  space_else w id v spares k other (Pen i) p = change_else w.space i (get_or spares i 0) k (other i p)
 
-  room_within : (w : Core I) (spares : List ℕ) → ((k : ℕ) → w.room k ≤ get_or spares k 0) → (who : Role) (k : ℕ) → room_after who w.room spares k ≤ get_or spares k 0
-  room_within w spares all Reader k = all k
-  room_within w spares all (Maker i) k = all k
-  room_within w spares all (Pen i) k = elim (cases_eq k i) [
+  space_within : (w : Core I) (spares : List ℕ) → ((k : ℕ) → w.space k ≤ get_or spares k 0) → (who : Role) (k : ℕ) → space_after who w.space spares k ≤ get_or spares k 0
+  space_within w spares all Reader k = all k
+  space_within w spares all (Maker i) k = all k
+  space_within w spares all (Pen i) k = elim (cases_eq k i) [
     | inl same ↦
-        let is : change w.room i (get_or spares i 0) k ≡ get_or spares i 0 = change_here w.room i (get_or spares i 0) k same in
+        let is : change w.space i (get_or spares i 0) k ≡ get_or spares i 0 = change_here w.space i (get_or spares i 0) k same in
         let at : get_or spares k 0 ≡ get_or spares i 0 = ap (λ n. get_or spares n 0) same in
         omega arith
-    | inr other ↦ let is : change w.room i (get_or spares i 0) k ≡ w.room k = change_else w.room i (get_or spares i 0) k other in omega (arith, all k)
+    | inr other ↦ let is : change w.space i (get_or spares i 0) k ≡ w.space k = change_else w.space i (get_or spares i 0) k other in omega (arith, all k)
   ]
 
-  left_plays : (w : Core I) (id : ℕ) (v : View I) (spares : List ℕ) → ((k : ℕ) → w.room k ≤ get_or spares k 0) → (who : Role) → Plays key w id v.own v.block v.reserve v.read v.fresh who
-      → Plays key (record w { room = room_after who w.room spares }) id v.own v.block (reserve_in who v.reserve spares) v.read v.fresh who
+  left_plays : (w : Core I) (id : ℕ) (v : View I) (spares : List ℕ) → ((k : ℕ) → w.space k ≤ get_or spares k 0) → (who : Role) → Plays key w id v.own v.block v.reserve v.read v.fresh who
+      → Plays key (record w { space = space_after who w.space spares }) id v.own v.block (reserve_in who v.reserve spares) v.read v.fresh who
   left_plays w id v spares all Reader p = tt
   left_plays w id v spares all (Maker i) p = p
   left_plays w id v spares all (Pen i) p = record {
@@ -66,8 +66,8 @@ module _ {I : Type 0} (key : Key) where
     seat = p.seat;
     own_is = p.own_is;
     block = p.block;
-    room = change_here w.room i (get_or spares i 0) i refl;
-    within = omega (arith, p.within, p.room, all i);
+    space = change_here w.space i (get_or spares i 0) i refl;
+    within = omega (arith, p.within, p.space, all i);
     value = p.value;
   }
 
@@ -76,7 +76,7 @@ module _ {I : Type 0} (law : Law I) (key : Key) where
   pub draws : (slots n pk : ℕ) (w : World I) (id : ℕ) (v : View I) (c : List (ℕ × Slot I)) → v.who ≡ Pen pk → v.block ≡ None → v.fresh ≡ true → v.read < key.stop → 0 < n → n ≤ most_drawn → n ≤ v.reserve
       → Good law key w → Knows key w id v
       → Goes law key w id c 2 ((w.core.state.next + n) % 2 ^ 64) (drew (step slots 2 n 0 maybe.none) (v, c) w.core.state.next)
-  draws slots n pk w id v c who free fresh below pos small room good k =
+  draws slots n pk w id v c who free fresh below pos small space good k =
       let p = pen_is key w.core id v pk k.core who in
       let s = w.core.state in
       let kept = good.kept in
@@ -116,7 +116,7 @@ module _ {I : Type 0} (law : Law I) (key : Key) where
                 stores = m.stores;
                 block = block_at-else s.held pk i (block_at (s.next + 1) n) other ∙ m.block;
                 over = next.others i other ∙ m.over;
-                room = m.room;
+                space = m.space;
               };
           stocked = good.stocked;
         };
@@ -131,8 +131,8 @@ module _ {I : Type 0} (law : Law I) (key : Key) where
               seat = p.seat;
               own_is = p.own_is;
               block = block_at-here s.held pk (block_at (s.next + 1) n) inside;
-              room = p.room;
-              within = room;
+              space = p.space;
+              within = space;
               value = λ f o. absurd (true≢false (sym f));
             });
           };
@@ -150,7 +150,7 @@ module _ {I : Type 0} (law : Law I) (key : Key) where
                   seat = o.seat;
                   own_is = o.own_is;
                   block = block_at-else s.held pk i (block_at (s.next + 1) n) other ∙ o.block;
-                  room = o.room;
+                  space = o.space;
                   within = o.within;
                   value = λ f e. o.value f (sym (next.others i other) ∙ e);
                 }) x.who q.core.plays;
@@ -180,14 +180,14 @@ module _ {I : Type 0} (law : Law I) (key : Key) where
   puts slots t n w id v x b turn who block lawful stands count lanes spent others good k =
       let pk : ℕ = x.writer in
       let p = pen_is key w.core id v pk k.core who in
-      let q : InTurn key.writers w.line w.core.state.history w.core.room id v.all v.spares t = turn_is key w id v (Has t) k turn in
+      let q : InTurn key.writers w.line w.core.state.history w.core.space id v.all v.spares t = turn_is key w id v (Has t) k turn in
       let s = w.core.state in
       let kept = good.kept in
       let inside : pk < length s.held = omega (arith, p.made, good.most, kept.writers) in
       let held' = set s.held pk None in
       let s' : State I = stored s pk x.first x.items in
-      let room' = change w.core.room pk (v.reserve - length x.items) in
-      let to : Core I = record w.core { state = s'; room = room' } in
+      let space' = change w.core.space pk (v.reserve - length x.items) in
+      let to : Core I = record w.core { state = s'; space = space' } in
       let u : View I = storing v x b in
       let served : w.line.ticket_of w.line.serving ≡ id = ap w.line.ticket_of (sym q.queue.turn) ∙ q.queue.mine in
       let more : v.all ++ x ∷ [] ≡ s.history ++ x ∷ [] = ap (λ l. l ++ x ∷ []) q.whole in
@@ -222,9 +222,9 @@ module _ {I : Type 0} (law : Law I) (key : Key) where
                 stores = own-else s.history x i (λ e. other (sym e)) ∙ m.stores;
                 block = block_at-else s.held pk i None other ∙ m.block;
                 over = m.over;
-                room = change_else w.core.room pk (v.reserve - length x.items) i other ∙ m.room;
+                space = change_else w.core.space pk (v.reserve - length x.items) i other ∙ m.space;
               };
-          stocked = subst (Stocked key.writers s'.history room') (sym q.queue.out) tt;
+          stocked = subst (Stocked key.writers s'.history space') (sym q.queue.out) tt;
         };
         mine = record {
           core = record {
@@ -237,22 +237,22 @@ module _ {I : Type 0} (law : Law I) (key : Key) where
               seat = p.seat;
               own_is = ap (λ l. l ++ x ∷ []) p.own_is ∙ sym (own-here s.history x);
               block = block_at-here s.held pk None inside;
-              room = change_here w.core.room pk (v.reserve - length x.items) pk refl;
+              space = change_here w.core.space pk (v.reserve - length x.items) pk refl;
               within = omega arith;
               value = p.value;
             });
           };
-          queued = subst (Queued key.writers w.line s'.history room' id u.all u.spares) (sym turn) (record {
+          queued = subst (Queued key.writers w.line s'.history space' id u.all u.spares) (sym turn) (record {
             queue = q.queue;
             whole = more;
-            rooms = λ i. elim (cases_eq i pk) [
+            spaces = λ i. elim (cases_eq i pk) [
               | inl same ↦
-                  let is : room' i ≡ v.reserve - length x.items = change_here w.core.room pk (v.reserve - length x.items) i same in
+                  let is : space' i ≡ v.reserve - length x.items = change_here w.core.space pk (v.reserve - length x.items) i same in
                   let at : get_or b.spare i 0 ≡ get_or b.spare pk 0 = ap (λ j. get_or b.spare j 0) same in
-                  omega (arith, is, at, spent, q.rooms pk, p.room, fits)
+                  omega (arith, is, at, spent, q.spaces pk, p.space, fits)
               | inr other ↦
-                  let is : room' i ≡ w.core.room i = change_else w.core.room pk (v.reserve - length x.items) i other in
-                  omega (arith, is, others i other, q.rooms i)
+                  let is : space' i ≡ w.core.space i = change_else w.core.space pk (v.reserve - length x.items) i other in
+                  omega (arith, is, others i other, q.spaces i)
             ];
             count = lanes ∙ q.count;
           });
@@ -269,12 +269,12 @@ module _ {I : Type 0} (law : Law I) (key : Key) where
                   seat = r.seat;
                   own_is = r.own_is ∙ sym (own-else s.history x i (λ e. other (sym e)));
                   block = block_at-else s.held pk i None other ∙ r.block;
-                  room = change_else w.core.room pk (v.reserve - length x.items) i other ∙ r.room;
+                  space = change_else w.core.space pk (v.reserve - length x.items) i other ∙ r.space;
                   within = r.within;
                   value = r.value;
                 }) y.who o.core.plays;
           };
-          queued = changed_others key.writers w.line s.history s'.history w.core.room room' j id y.all y.spares y.turn ne served o.queued;
+          queued = changed_others key.writers w.line s.history s'.history w.core.space space' j id y.all y.spares y.turn ne served o.queued;
         };
         words = ap (λ m. w.line.ticket ∷ w.line.serving ∷ s.next ∷ m ∷ []) (count ∙ omega (arith, ap length q.whole, length-append s.history (x ∷ [])));
         homes = refl;
@@ -287,12 +287,12 @@ module _ {I : Type 0} (law : Law I) (key : Key) where
       → ((i : ℕ) → get_or v.spares i 0 ≤ get_or b.spare i 0) → Good law key w → Knows key w id v
       → Goes law key w id ((0, Some b) ∷ []) 1 (t + 1) (left (step slots 1 (t + 1) 0 maybe.none) (v, (0, Some b) ∷ []) (t + 1))
   leaves slots t w id v b turn stands lanes spares good k =
-      let q : InTurn key.writers w.line w.core.state.history w.core.room id v.all v.spares t = turn_is key w id v (Has t) k turn in
+      let q : InTurn key.writers w.line w.core.state.history w.core.space id v.all v.spares t = turn_is key w id v (Has t) k turn in
       let h = w.core.state.history in
       let served : w.line.ticket_of w.line.serving ≡ id = ap w.line.ticket_of (sym q.queue.turn) ∙ q.queue.mine in
-      let rooms : (i : ℕ) → w.core.room i ≤ get_or b.spare i 0 = λ i. omega (arith, q.rooms i, spares i) in
-      let room' = room_after v.who w.core.room b.spare in
-      let to : Core I = record w.core { room = room' } in
+      let spaces : (i : ℕ) → w.core.space i ≤ get_or b.spare i 0 = λ i. omega (arith, q.spaces i, spares i) in
+      let space' = space_after v.who w.core.space b.spare in
+      let to : Core I = record w.core { space = space' } in
       let l : Line (Held I) = record w.line { serving = t + 1; slot = maybe.some (Some b) } in record {
         to = record { line = l; core = to };
         view = leaving v b;
@@ -307,16 +307,16 @@ module _ {I : Type 0} (law : Law I) (key : Key) where
             stores = m.stores;
             block = m.block;
             over = m.over;
-            room = room_else key w.core id v b.spare i (λ pk p e. omega (arith, p.made, le, e)) v.who k.core.plays ∙ m.room;
+            space = space_else key w.core id v b.spare i (λ pk p e. omega (arith, p.made, le, e)) v.who k.core.plays ∙ m.space;
           };
           stocked = record {
             stands = subst (λ g. StandsFor g b) q.whole stands;
-            rooms = room_within key w.core b.spare rooms v.who;
+            spaces = space_within key w.core b.spare spaces v.who;
             count = lanes ∙ q.count;
           };
         };
         mine = record {
-          core = record { bound = k.core.bound; sees = k.core.sees; hears = k.core.hears; reads = k.core.reads; plays = left_plays key w.core id v b.spare rooms v.who k.core.plays };
+          core = record { bound = k.core.bound; sees = k.core.sees; hears = k.core.hears; reads = k.core.reads; plays = left_plays key w.core id v b.spare spaces v.who k.core.plays };
           queued = tt;
         };
         others = λ j y ne o. record {
@@ -331,12 +331,12 @@ module _ {I : Type 0} (law : Law I) (key : Key) where
                   seat = r.seat;
                   own_is = r.own_is;
                   block = r.block;
-                  room = room_else key w.core id v b.spare i (λ pk p. other_pen key w.core j id i pk ne p.seat r.seat) v.who k.core.plays ∙ r.room;
+                  space = space_else key w.core id v b.spare i (λ pk p. other_pen key w.core j id i pk ne p.seat r.seat) v.who k.core.plays ∙ r.space;
                   within = r.within;
                   value = r.value;
                 }) y.who o.core.plays;
           };
-          queued = left_others key.writers w.line h w.core.room room' j id t b y.all y.spares y.turn ne served q.queue.turn o.queued;
+          queued = left_others key.writers w.line h w.core.space space' j id t b y.all y.spares y.turn ne served q.queue.turn o.queued;
         };
         words = refl;
         homes = refl;

@@ -20,7 +20,7 @@ use Rattle.mx_front.specs.declared.view.View.{View}
 use Rattle.mx_front.specs.World.{Slot, Ruled}
 use Rattle.mx_front.specs.Told.{Sat, block_at, Came, Looked, looking, storing, put, reserve_in, leaving}
 use Rattle.mx_front.specs.Turns.{holding, HasBook, entering, Entered, seizing, Seized, Ready, Stores, Grown, MayLeave}
-use Rattle.mx_front.specs.Calls.{Finishes, Roomier, Looks, Shows}
+use Rattle.mx_front.specs.Calls.{Finishes, KeepsSpace, Looks, Shows}
 use Rattle.mx_front.proofs.Allowed.{puts_at}
 use Rattle.mx_front.proofs.Moves.{in_hand}
 
@@ -33,7 +33,7 @@ module _ {I : Type 0} where
         all = came.all;
         is = came.is ∙ ap (λ c. (entering m.0 t came.all came.book.spare, (0, Some came.book) ∷ c)) bare;
         stands = came.stands;
-        room = came.room;
+        space = came.space;
         below = below;
       }
 
@@ -51,7 +51,7 @@ module _ {I : Type 0} (law : Law I) where
         all = e.all;
         is = looked0.0 ∙ ap (λ (x : Sat I). let y : Sat I = (looking x.0, x.1) in y) e.is;
         stands = e.stands;
-        room = e.room;
+        space = e.space;
         below = e.below;
         begins = l.begins;
         lawful = l.lawful;
@@ -66,7 +66,7 @@ module _ {I : Type 0} (law : Law I) where
       → (b : Held I) × Ready law m x b
   ready v t m x s who block lawful =
       let o = s.pen x.writer who in
-      let r = s.room x.writer who in
+      let r = s.space x.writer who in
       let b = o.block (record { first = x.first; count = length x.items }) block in (
         s.book,
         subst (λ n. Ready law n x s.book) (sym s.is) (record {
@@ -82,7 +82,7 @@ module _ {I : Type 0} (law : Law I) where
           items = b.1;
           first = b.0;
           last = b.2;
-          room = omega (arith, b.3, r.0);
+          space = omega (arith, b.3, r.0);
           apart = λ p low high. ap (λ h. is_stored h p) s.stands.history ∙ o.apart (record { first = x.first; count = length x.items }) p block low high;
         }),
       )
@@ -162,7 +162,7 @@ module _ {I : Type 0} (law : Law I) where
           orderly = orderly_more s.all x s.orderly (λ p low high. o.apart (record { first = x.first; count = length x.items }) p block low high)
               (subst (λ l. top 0 l < x.first) (sym o.own_is) (o.above (record { first = x.first; count = length x.items }) block));
           reserve =
-              let r = s.room x.writer who in
+              let r = s.space x.writer who in
               let now : u.reserve ≡ get_or st.book.spare x.writer 0 = ap (λ w. reserve_in w (v.reserve - length x.items) st.book.spare) who in
               omega (arith, now, st.spent, r.0);
           read = refl;
@@ -209,16 +209,16 @@ module _ {I : Type 0} where
   seized_leaves law v t m m1 e g = grown_leaves (seizing v t e.all e.book.spare) t e.book m m1 g e.is refl e.stands refl e.below
 
   pub lane_in : (v : View I) (t k : ℕ) (m : Sat I) → Entered v t m → v.who ≡ Pen k → (b : Held I) × (m.1 ≡ holding b) × (k < length b.spare)
-  lane_in v t k m e who = (e.book, ap (λ (y : Sat I). y.1) e.is, (e.room k who).1)
+  lane_in v t k m e who = (e.book, ap (λ (y : Sat I). y.1) e.is, (e.space k who).1)
 
   pub seized_book : (law : Law I) (v : View I) (t : ℕ) (m : Sat I) → Seized law v t m → HasBook m
   seized_book law v t m s = (s.book, ap (λ (y : Sat I). y.1) s.is)
 
-  -- what a pen knows after room was made
+  -- what a pen knows after space was made
   pub record Reserved (law : Law I) (v : View I) (k : ℕ) (m : Sat I) : Type 0 where
     pub rests : (m.0.turn ≡ Idle) × (m.1 ≡ [])
     pub writes : m.0.who ≡ Pen k
-    pub roomier : Roomier v m.0
+    pub keeps_space : KeepsSpace v m.0
 
   pub reserved : (law : Law I) (v : View I) (t k : ℕ) (m m1 m2 : Sat I) → Entered v t m → v.who ≡ Pen k → Grown m m1 → ((b : Held I) → m1.1 ≡ holding b → m2 ≡ (leaving m1.0 b, [])) → Reserved law v k m2
   reserved law v t k m m1 m2 e who g left =
@@ -228,9 +228,9 @@ module _ {I : Type 0} where
       subst (Reserved law v k) (sym is) (record {
         rests = (refl, refl);
         writes = who;
-        roomier = record {
+        keeps_space = record {
           reserve =
-              let r = e.room k who in
+              let r = e.space k who in
               let now : u.reserve ≡ get_or g.new.spare k 0 = ap (λ w. reserve_in w v.reserve g.new.spare) who in
               omega (arith, now, went.1.spare k, r.0);
           seen = refl;
@@ -241,13 +241,13 @@ module _ {I : Type 0} where
         };
       })
 
-  pub room_left : (v : View I) (t k n : ℕ) (m m1 m2 : Sat I) → Entered v t m → v.who ≡ Pen k → (g : Grown m m1) → ((b : Held I) → m1.1 ≡ holding b → n ≤ get_or b.spare k 0)
+  pub space_left : (v : View I) (t k n : ℕ) (m m1 m2 : Sat I) → Entered v t m → v.who ≡ Pen k → (g : Grown m m1) → ((b : Held I) → m1.1 ≡ holding b → n ≤ get_or b.spare k 0)
       → ((b : Held I) → m1.1 ≡ holding b → m2 ≡ (leaving m1.0 b, [])) → n ≤ m2.0.reserve
-  room_left v t k n m m1 m2 e who g room left =
+  space_left v t k n m m1 m2 e who g space left =
       let at : m1.1 ≡ holding g.new = ap (λ (y : Sat I). y.1) g.is in
       let same : m1.0.who ≡ Pen k = ap (λ (y : Sat I). y.0.who) g.is ∙ ap (λ (y : Sat I). y.0.who) e.is ∙ who in
       let now : m2.0.reserve ≡ get_or g.new.spare k 0 = ap (λ (y : Sat I). y.0.reserve) (left g.new at) ∙ ap (λ w. reserve_in w m1.0.reserve g.new.spare) same in
-      omega (arith, now, room g.new at)
+      omega (arith, now, space g.new at)
 
   -- what a pass knows after a look
   pub record HasLooked (law : Law I) (v : View I) (m : Sat I) : Type 0 where
@@ -276,10 +276,10 @@ module _ {I : Type 0} where
         parts = subst (λ h. IsUpTo h s.book.front p) s.stands.history (up s.book (ap (λ (y : Sat I). y.1) s.is));
       })) told
 
-  -- the room that was made
-  pub roomy : (v : View I) (t k n : ℕ) (m m1 m2 : Sat I) → Entered v t m → v.who ≡ Pen k → Grown m m1 → ((b : Held I) → m1.1 ≡ holding b → m2 ≡ (leaving m1.0 b, []))
+  -- the space that was made
+  pub spaced : (v : View I) (t k n : ℕ) (m m1 m2 : Sat I) → Entered v t m → v.who ≡ Pen k → Grown m m1 → ((b : Held I) → m1.1 ≡ holding b → m2 ≡ (leaving m1.0 b, []))
       → {T E : Type 0} (r : Result T E) → OnOk r ((b : Held I) → m1.1 ≡ holding b → n ≤ get_or b.spare k 0) → OnOk r (n ≤ m2.0.reserve)
-  roomy v t k n m m1 m2 e who g left r room = on_ok_weaker r (λ all. room_left v t k n m m1 m2 e who g all left) room
+  spaced v t k n m m1 m2 e who g left r space = on_ok_weaker r (λ all. space_left v t k n m m1 m2 e who g all left) space
 
   -- ---- how many stores a seat has seen
 

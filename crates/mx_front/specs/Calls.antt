@@ -46,8 +46,8 @@ pub record Finishes {I : Type 0} (law : Law I) (v : View I) (x : Stored I) (f : 
   pub read : v'.read ≡ v.read
   pub fresh : v'.fresh ≡ v.fresh
 
--- room was made: nothing else changed
-pub record Roomier {I : Type 0} (v v' : View I) : Type 0 where
+-- space was made: nothing else changed
+pub record KeepsSpace {I : Type 0} (v v' : View I) : Type 0 where
   pub reserve : v.reserve ≤ v'.reserve
   pub seen : v'.seen ≡ v.seen
   pub own_is : v'.own ≡ v.own

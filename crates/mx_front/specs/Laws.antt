@@ -67,7 +67,7 @@ pub record MayDraw {I : Type 0} (key : Key) (v : View I) (n k : ℕ) : Type 0 wh
   pub below : v.read < key.stop
   pub some_positions : 0 < n
   pub few : n ≤ most_drawn
-  pub room : n ≤ v.reserve
+  pub space : n ≤ v.reserve
 
 -- a pen with the turn may store x: the book in hand has it
 pub record MayPut {I : Type 0} (law : Law I) (m : Sat I) (t n : ℕ) (x : Stored I) (b : Held I) : Type 0 where

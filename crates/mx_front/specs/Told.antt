@@ -26,16 +26,16 @@ block_at first count = Some (record { first = first; count = count })
 abbrev pub claimed : {I : Type 0} → At I → Sat I → ℕ → Sat I → Type 0
 claimed st m found m' = (found ≡ st.first → m' ≡ (record m.0 { turn = Waits found }, m.1)) × (found ≢ st.first → m' ≡ m)
 
--- the room that is set apart for a pen is in its lane
-abbrev pub HasRoomIn : {I : Type 0} → View I → List ℕ → Type 0
-HasRoomIn v spares = (k : ℕ) → v.who ≡ Pen k → (v.reserve ≤ slice_index spares k) × (k < length spares)
+-- the space that is set apart for a pen is in its lane
+abbrev pub HasSpaceIn : {I : Type 0} → View I → List ℕ → Type 0
+HasSpaceIn v spares = (k : ℕ) → v.who ≡ Pen k → (v.reserve ≤ slice_index spares k) × (k < length spares)
 
 pub record Came {I : Type 0} (m : Sat I) (found : ℕ) (m' : Sat I) : Type 0 where
   pub book : Held I
   pub all : List (Stored I)
   pub is : m' ≡ (record m.0 { turn = Has found; all = all; spares = book.spare }, (0, Some book) ∷ m.1)
   pub stands : StandsFor all book
-  pub room : HasRoomIn m.0 book.spare
+  pub space : HasSpaceIn m.0 book.spare
 
 -- the ticket that is served: the seat has the book where the ticket is its own
 abbrev pub came : {I : Type 0} → At I → Sat I → ℕ → Sat I → Type 0
@@ -94,7 +94,7 @@ abbrev pub put : {I : Type 0} → At I → Sat I → ℕ → Sat I → Type 0
 put {I} st m found m' =
     (x : Stored I) (b : Held I) → m.1 ≡ (0, Some b) ∷ [] → m.0.who ≡ Pen x.writer → StandsFor (m.0.all ++ x ∷ []) b → m' ≡ (storing m.0 x b, m.1)
 
--- the room of a seat after its turn: that of its lane, if it is a pen
+-- the space of a seat after its turn: that of its lane, if it is a pen
 abbrev pub reserve_in : Role → ℕ → List ℕ → ℕ
 reserve_in (Pen k) reserve spares = slice_index spares k
 reserve_in who reserve spares = reserve

@@ -10,7 +10,7 @@ use Rattle.mx_front.specs.declared.view.Role.TheVariants.{Pen}
 use Rattle.mx_front.specs.declared.view.Turn.TheVariants.{Has}
 use Rattle.mx_front.specs.declared.view.View.{View}
 use Rattle.mx_front.specs.World.{Slot}
-use Rattle.mx_front.specs.Told.{Sat, block_at, HasRoomIn, OwnIn, storing}
+use Rattle.mx_front.specs.Told.{Sat, block_at, HasSpaceIn, OwnIn, storing}
 
 -- the book is in hand
 abbrev pub holding : {I : Type 0} → Held I → List (ℕ × Slot I)
@@ -28,7 +28,7 @@ pub record Entered {I : Type 0} (v : View I) (ticket : ℕ) (m : Sat I) : Type 0
   pub all : List (Stored I)
   pub is : m ≡ (entering v ticket all book.spare, holding book)
   pub stands : StandsFor all book
-  pub room : HasRoomIn v book.spare
+  pub space : HasSpaceIn v book.spare
   pub below : ticket + 1 < 2 ^ 64
 
 abbrev pub seizing : {I : Type 0} → View I → ℕ → List (Stored I) → List ℕ → View I
@@ -40,7 +40,7 @@ pub record Seized {I : Type 0} (law : Law I) (v : View I) (ticket : ℕ) (m : Sa
   pub all : List (Stored I)
   pub is : m ≡ (seizing v ticket all book.spare, holding book)
   pub stands : StandsFor all book
-  pub room : HasRoomIn v book.spare
+  pub space : HasSpaceIn v book.spare
   pub below : ticket + 1 < 2 ^ 64
   pub begins : Begins v.seen all
   pub lawful : keeps_law law [] all ≡ true
@@ -63,7 +63,7 @@ pub record Ready {I : Type 0} (law : Law I) (m : Sat I) (x : Stored I) (b : Held
   pub items : 0 < length x.items
   pub first : 1 ≤ x.first
   pub last : x.first + length x.items ≤ 2 ^ 48
-  pub room : length x.items ≤ slice_index b.spare x.writer
+  pub space : length x.items ≤ slice_index b.spare x.writer
   pub apart : (p : ℕ) → x.first ≤ p → p < x.first + length x.items → is_stored b.history p ≡ false
 
 -- one store more, in hand and at the table
@@ -74,7 +74,7 @@ pub record Stores {I : Type 0} (v : View I) (x : Stored I) (f : ℕ) (m : Sat I)
   pub front : IsFront (v.all ++ x ∷ []) f
   pub spent : slice_index book.spare x.writer + length x.items ≡ slice_index v.spares x.writer
 
--- the book in hand has more room, or is as it was
+-- the book in hand has more space, or is as it was
 pub record Grown {I : Type 0} (m m' : Sat I) : Type 0 where
   pub old : Held I
   pub new : Held I

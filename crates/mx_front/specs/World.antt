@@ -23,14 +23,14 @@ abbrev pub Slot : Type 0 → Type 0
 Slot I = Option (Held I)
 
 -- the machine of positions and its pens: the seat of each pen, the seat that makes pens and how many it has made, the pens whose last
--- draw ended at the stop or past it, and the room that is set apart for each pen
+-- draw ended at the stop or past it, and the space that is set apart for each pen
 pub record Core (I : Type 0) : Type 0 where
   pub state : State I
   pub pen_of : ℕ → ℕ
   pub maker : ℕ
   pub made : ℕ
   pub over : ℕ → Bool
-  pub room : ℕ → ℕ
+  pub space : ℕ → ℕ
 
 pub record World (I : Type 0) : Type 0 where
   pub line : Line (Held I)
@@ -65,19 +65,19 @@ pub record Unmade {I : Type 0} (w : Core I) (k : ℕ) : Type 0 where
   pub stores : own w.state.history k ≡ []
   pub block : block_of w.state k ≡ None
   pub over : w.over k ≡ false
-  pub room : w.room k ≡ 0
+  pub space : w.space k ≡ 0
 
--- a book stands for the history and has the room that is set apart
-pub record Standing {I : Type 0} (lanes : ℕ) (h : List (Stored I)) (room : ℕ → ℕ) (b : Held I) : Type 0 where
+-- a book stands for the history and has the space that is set apart
+pub record Standing {I : Type 0} (lanes : ℕ) (h : List (Stored I)) (space : ℕ → ℕ) (b : Held I) : Type 0 where
   pub stands : StandsFor h b
-  pub rooms : (k : ℕ) → room k ≤ slice_index b.spare k
+  pub spaces : (k : ℕ) → space k ≤ slice_index b.spare k
   pub count : length b.spare ≡ lanes
 
 -- a slot at home has such a book
 abbrev pub Stocked : {I : Type 0} → ℕ → List (Stored I) → (ℕ → ℕ) → maybe.Option (Slot I) → Type 0
-Stocked lanes h room maybe.none = Unit {0}
-Stocked lanes h room (maybe.some None) = ⊥
-Stocked lanes h room (maybe.some (Some b)) = Standing lanes h room b
+Stocked lanes h space maybe.none = Unit {0}
+Stocked lanes h space (maybe.some None) = ⊥
+Stocked lanes h space (maybe.some (Some b)) = Standing lanes h space b
 
 pub record Good {I : Type 0} (law : Law I) (key : Key) (w : World I) : Type 0 where
   pub ordered : w.line.serving ≤ w.line.ticket
@@ -86,29 +86,29 @@ pub record Good {I : Type 0} (law : Law I) (key : Key) (w : World I) : Type 0 wh
   pub kept : Kept law key w.core.state w.core.over
   pub most : w.core.made ≤ key.writers
   pub unmade : (k : ℕ) → w.core.made ≤ k → Unmade w.core k
-  pub stocked : Stocked key.writers w.core.state.history w.core.room w.line.slot
+  pub stocked : Stocked key.writers w.core.state.history w.core.space w.line.slot
 
--- a seat has the turn, with the book: it knows the history and the room of each lane
-pub record InTurn {I : Type 0} (lanes : ℕ) (l : Line (Held I)) (h : List (Stored I)) (room : ℕ → ℕ) (j : ℕ) (all : List (Stored I))
+-- a seat has the turn, with the book: it knows the history and the space of each lane
+pub record InTurn {I : Type 0} (lanes : ℕ) (l : Line (Held I)) (h : List (Stored I)) (space : ℕ → ℕ) (j : ℕ) (all : List (Stored I))
     (spares : List ℕ) (t : ℕ) : Type 0 where
   pub queue : Having l j t
   pub whole : all ≡ h
-  pub rooms : (k : ℕ) → room k ≤ slice_index spares k
+  pub spaces : (k : ℕ) → space k ≤ slice_index spares k
   pub count : length spares ≡ lanes
 
 abbrev pub Queued : {I : Type 0} → ℕ → Line (Held I) → List (Stored I) → (ℕ → ℕ) → ℕ → List (Stored I) → List ℕ → Turn → Type 0
-Queued lanes l h room j all spares Idle = Unit {0}
-Queued lanes l h room j all spares (Waits t) = Waiting l j t
-Queued lanes l h room j all spares (Has t) = InTurn lanes l h room j all spares t
+Queued lanes l h space j all spares Idle = Unit {0}
+Queued lanes l h space j all spares (Waits t) = Waiting l j t
+Queued lanes l h space j all spares (Has t) = InTurn lanes l h space j all spares t
 
--- a seat is the pen of a writer: it knows all stores of the writer, its block and its room, and has read the stop where the writer is past it
+-- a seat is the pen of a writer: it knows all stores of the writer, its block and its space, and has read the stop where the writer is past it
 pub record PenOf {I : Type 0} (key : Key) (w : Core I) (j : ℕ) (mine : List (Stored I)) (held : Option Block) (reserve read : ℕ)
     (fresh : Bool) (k : ℕ) : Type 0 where
   pub made : k < w.made
   pub seat : w.pen_of k ≡ j
   pub own_is : mine ≡ own w.state.history k
   pub block : block_of w.state k ≡ held
-  pub room : w.room k ≡ reserve
+  pub space : w.space k ≡ reserve
   pub within : count_of held ≤ reserve
   pub value : fresh ≡ true → w.over k ≡ true → key.stop ≤ read
 
@@ -127,7 +127,7 @@ pub record Knowing {I : Type 0} (key : Key) (w : Core I) (j : ℕ) (v : View I) 
 
 pub record Knows {I : Type 0} (key : Key) (w : World I) (j : ℕ) (v : View I) : Type 0 where
   pub core : Knowing key w.core j v
-  pub queued : Queued key.writers w.line w.core.state.history w.core.room j v.all v.spares v.turn
+  pub queued : Queued key.writers w.line w.core.state.history w.core.space j v.all v.spares v.turn
 
 -- the rule
 pub record Ruled {I : Type 0} (law : Law I) (key : Key) (s : table.State (Slot I) (View I)) : Type 0 where

@@ -94,8 +94,8 @@ impl<I: Placed + Drop> Stream<I> {
         front
     }
 
-    /// Makes room for `count` items in the writer's lane, in the turn. `Memory` leaves the book as it was.
-    pub(crate) fn more_room(
+    /// Makes space for `count` items in the writer's lane, in the turn. `Memory` leaves the book as it was.
+    pub(crate) fn more_space(
         &self,
         seat: &mut Place<I>,
         writer: u8,
@@ -105,7 +105,7 @@ impl<I: Placed + Drop> Stream<I> {
         requires book { (b : Held I) × (seat.old.me.1 ≡ holding b) × (writer < length b.spare) }
         ensures table { seat.new.table_id ≡ seat.old.table_id }
         ensures grown { Grown seat.old.me seat.new.me }
-        ensures room { OnOk result ((b : Held I) → seat.new.me.1 ≡ holding b → count ≤ slice_index b.spare writer) }
+        ensures space { OnOk result ((b : Held I) → seat.new.me.1 ≡ holding b → count ≤ slice_index b.spare writer) }
     {
         let mut book = self.take_book(seat);
         let made = book.reserve(writer, count);

@@ -32,7 +32,7 @@ pub struct View<I> {
     pub who: Role,
     /// The block that a pen has drawn and not stored yet.
     pub block: Option<Block>,
-    /// How many items the pen's lane has room for.
+    /// How many items the pen's lane has space for.
     pub reserve: u64,
     /// A value of `next` that was read.
     pub read: u64,
@@ -51,7 +51,7 @@ pub struct View<I> {
     pub ghost own: { List (Stored I) },
     /// With the turn: the stores of the book.
     pub ghost all: { List (Stored I) },
-    /// With the turn: how many items each lane has room for.
+    /// With the turn: how many items each lane has space for.
     pub ghost spares: { List ℕ },
 }
 

@@ -1,8 +1,8 @@
-//! What a pen does: it draws a block, makes room for it, and stores it.
+//! What a pen does: it draws a block, makes space for it, and stores it.
 
 ghost use Rattle.std.specs.Prelude.{◌≡◌, ◌<◌, ◌≤◌, true, None, length, IfOk, IfErr, OnOk};
 ghost use Rattle.mx_core.specs.Limits.{most_drawn};
-ghost use Rattle.mx_front.specs.Calls.{Draws, Fills, Finishes, Roomier};
+ghost use Rattle.mx_front.specs.Calls.{Draws, Fills, Finishes, KeepsSpace};
 ghost use Rattle.mx_front.specs.Shown.{place_of, stop_of, known, number, place_of_pen};
 ghost use Rattle.mx_front.specs.Told.{block_at};
 
@@ -15,7 +15,7 @@ use mx_ids::{Memory, Seq};
 use std::sync::Wait;
 
 impl<I: Placed + Drop> Stream<I> {
-    /// Draws the next `n` positions, 1 to 256, for a pen of this stream that holds no block and has room for them.
+    /// Draws the next `n` positions, 1 to 256, for a pen of this stream that holds no block and has space for them.
     /// Waits for nobody and takes no memory: one load and one `fetch_add`. The block lies after all stores of the pen's
     /// writer, and its last position is below 2^48. `Full` exactly where the number of positions that were drawn was
     /// read at the stream's stop or past it by this call; then nothing is drawn.
@@ -23,7 +23,7 @@ impl<I: Placed + Drop> Stream<I> {
         requires stream { place_of_pen pen.old ≡ place_of self.now }
         requires count { (1 ≤ n) × (n ≤ most_drawn) }
         requires free { (known pen.old).block ≡ None }
-        requires room { n ≤ (known pen.old).reserve }
+        requires space { n ≤ (known pen.old).reserve }
         ensures stream { (place_of_pen pen.new ≡ place_of_pen pen.old) × (number pen.new ≡ number pen.old) }
         ensures drawn { IfOk result (λ d. Draws (known pen.old) (stop_of self.now) n d (known pen.new)) }
         ensures full { IfErr result (λ f. Fills (known pen.old) (stop_of self.now) f (known pen.new)) }
@@ -40,16 +40,16 @@ impl<I: Placed + Drop> Stream<I> {
         })
     }
 
-    /// Makes room for `n` items of a pen of this stream: its reserve is then at least `n`. Waits for its turn at the
-    /// stream. Where the allocator refuses the room it answers `Memory`, and the reserve is at least what it was.
+    /// Makes space for `n` items of a pen of this stream: its reserve is then at least `n`. Waits for its turn at the
+    /// stream. Where the allocator refuses the space it answers `Memory`, and the reserve is at least what it was.
     pub fn reserve<R: Wait>(&self, rt: &R, pen: &mut Pen<I>, n: u16) -> Result<(), Memory>
         requires stream { place_of_pen pen.old ≡ place_of self.now }
         ensures stream { (place_of_pen pen.new ≡ place_of_pen pen.old) × (number pen.new ≡ number pen.old) }
-        ensures room { OnOk result (n ≤ (known pen.new).reserve) }
-        ensures kept { Roomier (known pen.old) (known pen.new) }
+        ensures space { OnOk result (n ≤ (known pen.new).reserve) }
+        ensures kept { KeepsSpace (known pen.old) (known pen.new) }
     {
         let owed = self.enter(rt, &mut pen.seat);
-        let made = self.more_room(&mut pen.seat, pen.writer, n);
+        let made = self.more_space(&mut pen.seat, pen.writer, n);
         self.leave(&mut pen.seat, owed);
         made
     }

@@ -10,10 +10,10 @@ use Rattle.mx_core.specs.History.{item_at, is_stored, items_of}
 use Rattle.mx_lanes.specs.Book.{IsBook, IsShelved}
 use Rattle.mx_lanes.specs.Order.{by_index, IsReach}
 use Rattle.mx_lanes.specs.Parts.{IsUpTo, part_at}
-use Rattle.mx_lanes.specs.Room.{total, HasRoom}
+use Rattle.mx_lanes.specs.Space.{total, HasSpace}
 use Rattle.mx_lanes.proofs.Orders.{IsPlace, insert_named, valid_more, reach_placed, same_items, reach_front, reach_items, reach_length, slice_get-take, take_found, length-by_index}
 
--- the room of all lanes
+-- the space of all lanes
 total-set : (xs : List ℕ) (k v : ℕ) → k < length xs → total (set xs k v) + get_or xs k 0 ≡ total xs + v
 total-set [] k v lt = absurd (omega arith)
 total-set (x ∷ xs) zero v lt = omega arith
@@ -35,17 +35,17 @@ total_more xs i lt = ap total (take_more xs i 0 lt) ∙ total-push (take i xs) (
     total-push [] n = omega arith
     total-push (y ∷ ys) n = let e : total (ys ++ n ∷ []) ≡ total ys + n = total-push ys n in omega arith
 
-pub room_new : (spare : List ℕ) (n used capacity : ℕ) → spare ≡ replicate n 0 → used ≡ 0 → HasRoom spare used capacity
-room_new spare n used capacity is none = record { fits = omega (arith, ap total is, total-replicate n) }
+pub space_new : (spare : List ℕ) (n used capacity : ℕ) → spare ≡ replicate n 0 → used ≡ 0 → HasSpace spare used capacity
+space_new spare n used capacity is none = record { fits = omega (arith, ap total is, total-replicate n) }
 
-pub room_reserved : (spare : List ℕ) (k more v used capacity : ℕ) → k < length spare → v ≡ get_or spare k 0 + more → used + (total spare + more) ≤ capacity → HasRoom (set spare k v) used capacity
-room_reserved spare k more v used capacity lt is fits = record { fits = omega (arith, total-set spare k v lt) }
+pub space_reserved : (spare : List ℕ) (k more v used capacity : ℕ) → k < length spare → v ≡ get_or spare k 0 + more → used + (total spare + more) ≤ capacity → HasSpace (set spare k v) used capacity
+space_reserved spare k more v used capacity lt is fits = record { fits = omega (arith, total-set spare k v lt) }
 
-pub room_stored : (spare : List ℕ) (k v count used capacity grown larger : ℕ) → k < length spare → v + count ≡ get_or spare k 0 → 0 < count → HasRoom spare used capacity → grown ≡ used + 1 → capacity ≤ larger → HasRoom (set spare k v) grown larger
-room_stored spare k v count used capacity grown larger lt is pos r more wide = record { fits = omega (arith, total-set spare k v lt, r.fits) }
+pub space_stored : (spare : List ℕ) (k v count used capacity grown larger : ℕ) → k < length spare → v + count ≡ get_or spare k 0 → 0 < count → HasSpace spare used capacity → grown ≡ used + 1 → capacity ≤ larger → HasSpace (set spare k v) grown larger
+space_stored spare k v count used capacity grown larger lt is pos r more wide = record { fits = omega (arith, total-set spare k v lt, r.fits) }
 
-pub has_room : (spare : List ℕ) (k count used capacity : ℕ) → count ≤ get_or spare k 0 → 0 < count → HasRoom spare used capacity → used < capacity
-has_room spare k count used capacity le pos r = omega (arith, total_has spare k, r.fits)
+pub has_space : (spare : List ℕ) (k count used capacity : ℕ) → count ≤ get_or spare k 0 → 0 < count → HasSpace spare used capacity → used < capacity
+has_space spare k count used capacity le pos r = omega (arith, total_has spare k, r.fits)
 
 -- the fields of a book
 pub book_new : {I : Type 0} (h : List (Stored I)) (order : List ℕ) → h ≡ [] → order ≡ [] → IsBook h order 0 0

@@ -54,7 +54,7 @@ take_more_of [] (suc n) zero = ap (λ k. take k []) (let e : suc n + 0 ≡ suc n
 take_more_of [] (suc n) (suc j) = ap (λ k. take k []) (let e : suc n + suc j ≡ suc (n + suc j) = omega arith in e)
 take_more_of (x ∷ xs) (suc n) j = ap (λ k. take k (x ∷ xs)) (let e : suc n + j ≡ suc (n + j) = omega arith in e) ∙ ap (λ l. x ∷ l) (take_more_of xs n j)
 
--- what one list leaves room for of the next
+-- what one list leaves space for of the next
 pub take_fill : {A : Type 0} (most count : ℕ) (xs ys : List A) → count ≡ min (length ys) (most - length (take most xs)) → take most xs ++ take count ys ≡ take most (xs ++ ys)
 take_fill zero count [] ys e = ap (λ n. take n ys) (let none : count ≡ 0 = omega arith in none)
 take_fill (suc most) count [] ys e = ap (λ n. take n ys) (let is : count ≡ min (suc most) (length ys) = omega arith in is) ∙ take_min (suc most) ys

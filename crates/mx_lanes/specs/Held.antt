@@ -1,4 +1,4 @@
--- A book as contracts see it: its history, with the spare room of each lane beside it.
+-- A book as contracts see it: its history, with the spare space of each lane beside it.
 use Rattle.std.specs.Prelude.{◌≡◌, ◌≢◌, ℕ, ◌≤◌, List, [], length, slice_index, replicate}
 use Rattle.mx_core.specs.declared.history.Stored.{Stored}
 use Rattle.mx_core.specs.Front.{IsFront}
@@ -6,14 +6,14 @@ use Rattle.mx_core.specs.Front.{IsFront}
 pub record Held (I : Type 0) : Type 0 where
   -- the stores, in the order in which they were made
   pub history : List (Stored I)
-  -- how many items each lane has room for
+  -- how many items each lane has space for
   pub spare : List ℕ
   pub front : ℕ
 
 abbrev pub empty : {I : Type 0} → ℕ → Held I
 empty writers = record { history = []; spare = replicate writers 0; front = 0 }
 
--- the spare room of a lane
+-- the spare space of a lane
 abbrev pub spare_of : {I : Type 0} → Held I → ℕ → ℕ
 spare_of b lane = slice_index b.spare lane
 

@@ -3,5 +3,5 @@ pub mod Held
 pub mod Laws
 pub mod Order
 pub mod Parts
-pub mod Room
+pub mod Space
 pub mod Segments

@@ -1,4 +1,4 @@
-//! The book of a stream: its stores, its front, and the room of each lane.
+//! The book of a stream: its stores, its front, and the space of each lane.
 
 ghost use Rattle.std.specs.Prelude.{◌≡◌, ◌<◌, ◌≤◌, ◌+◌, ◌^◌, [], ◌∷◌, ◌++◌, ℕ, false, length, IfOk, OnOk, OnErr};
 ghost use Rattle.mx_core.specs.Front.{IsFront};
@@ -8,16 +8,16 @@ ghost use Rattle.mx_lanes.specs.Parts.{IsUpTo};
 
 use crate::order::{Reach, put_store};
 use crate::parts::Parts;
-use crate::room::total_spare;
 use crate::shelf::Shelf;
 use crate::shelving::shelve;
+use crate::space::total_spare;
 use mx_core::Stored;
 use mx_ids::{Copied, Memory, Seq};
 use std::alloc::Global;
 use std::marker::Model;
 
-/// The stores of a stream, with one lane for each writer, numbered from 0. A lane's room is made by `reserve`, so that
-/// `store` takes no memory. Contracts see a book as a `Held`: its history, the spare room of each lane, and the front.
+/// The stores of a stream, with one lane for each writer, numbered from 0. A lane's space is made by `reserve`, so that
+/// `store` takes no memory. Contracts see a book as a `Held`: its history, the spare space of each lane, and the front.
 ///
 /// Beside the stores stands their order by position. A writer that holds one block at a time makes each store of the
 /// others wait for at most that block, so a store is moved in this order at most once for each lane.
@@ -38,21 +38,21 @@ impl<I> Model for Book<I> {
     ghost use Rattle.std.specs.Vec.{vec_len, vec_capacity};
     ghost use Rattle.mx_lanes.specs.Held.{Held};
     ghost use Rattle.mx_lanes.specs.Book.{IsBook, IsShelved};
-    ghost use Rattle.mx_lanes.specs.Room.{HasRoom};
+    ghost use Rattle.mx_lanes.specs.Space.{HasSpace};
 
     ghost Value = { Held I };
 
     ghost view = { λ b. record { history = b.history.items; spare = b.spares.items; front = b.reach.front } };
 
     ghost invariant = { λ b. IsBook b.history.items b.order.items b.reach.passed b.reach.front
-        × HasRoom b.spares.items (vec_len b.history) (vec_capacity b.history)
-        × HasRoom b.spares.items (vec_len b.order) (vec_capacity b.order)
+        × HasSpace b.spares.items (vec_len b.history) (vec_capacity b.history)
+        × HasSpace b.spares.items (vec_len b.order) (vec_capacity b.order)
         × (length b.spares.items ≤ 255)
         × IsShelved b.history.items b.order.items b.reach.passed b.shelved b.shelf };
 }
 
 impl<I: Drop> Book<I> {
-    /// An empty book of `writers` lanes, none of which has room. `Memory` where the allocator refuses their list.
+    /// An empty book of `writers` lanes, none of which has space. `Memory` where the allocator refuses their list.
     pub fn new(alloc: Global, writers: u8) -> Result<Book<I>, Memory>
         ensures { IfOk result (λ b. b ≡ empty writers) }
     {
@@ -69,11 +69,11 @@ impl<I: Drop> Book<I> {
         })
     }
 
-    /// Makes room for `count` items in a lane. Afterwards the lane's spare is at least `count` and at least what it
+    /// Makes space for `count` items in a lane. Afterwards the lane's spare is at least `count` and at least what it
     /// was, and that of every other lane is as before. `Memory` leaves the book as it was.
     pub fn reserve(&mut self, lane: u8, count: u16) -> Result<(), Memory>
         requires { lane < length self.old.spare }
-        ensures room { OnOk result (count ≤ spare_of self.new lane) }
+        ensures space { OnOk result (count ≤ spare_of self.new lane) }
         ensures kept { Keeps self.old self.new }
         ensures others { OthersKeep lane self.old self.new }
         ensures same { OnErr result (self.new ≡ self.old) }
@@ -81,21 +81,21 @@ impl<I: Drop> Book<I> {
         let lane = usize::from(lane);
         let spare = self.spares[lane];
         let more = count.saturating_sub(spare);
-        let room = total_spare(self.spares.as_slice()) + usize::from(more);
-        self.history.reserve(room)?;
-        self.order.reserve(room)?;
+        let space = total_spare(self.spares.as_slice()) + usize::from(more);
+        self.history.reserve(space)?;
+        self.order.reserve(space)?;
         self.spares[lane] = spare + more;
         Ok(())
     }
 
     /// Stores items of a lane's writer at the positions from `first` on, of which none is stored yet and the last is
-    /// below 2^48. Takes no memory: the lane has room for the items, and its spare falls by their number.
+    /// below 2^48. Takes no memory: the lane has space for the items, and its spare falls by their number.
     pub fn store(&mut self, lane: u8, first: u64, items: Seq<I>)
         requires lane { lane < length self.old.spare }
         requires items { 0 < length items }
         requires first { 1 ≤ first }
         requires last { first + length items ≤ 2 ^ 48 }
-        requires room { length items ≤ spare_of self.old lane }
+        requires space { length items ≤ spare_of self.old lane }
         requires apart { (p : ℕ) → first ≤ p → p < first + length items → is_stored self.old.history p ≡ false }
         ensures history { self.new.history ≡ self.old.history ++ record { writer = lane; first = first; items = items } ∷ [] }
         ensures front { IsFront self.new.history self.new.front }
@@ -150,7 +150,7 @@ impl<I: Copied> Book<I> {
     }
 }
 
-/// The spare room that is left when items are stored.
+/// The spare space that is left when items are stored.
 fn left_of(spare: u16, count: usize) -> u16
     requires { count ≤ spare }
     ensures { result + count ≡ spare }

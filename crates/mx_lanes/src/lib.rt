@@ -1,4 +1,4 @@
-//! A stream's stores as they stand in memory: one lane for each writer, whose room is made before a block is drawn,
+//! A stream's stores as they stand in memory: one lane for each writer, whose space is made before a block is drawn,
 //! the front, and the items up to a front.
 #![tactic(auto)]
 
@@ -6,10 +6,10 @@ mod book;
 mod laws;
 mod order;
 mod parts;
-mod room;
 mod shared;
 mod shelf;
 mod shelving;
+mod space;
 
 pub use book::Book;
 pub use laws::{

@@ -89,7 +89,7 @@ where
     ensures lengths { (vec_len history.new ≡ vec_len history.old + 1) × (vec_len order.new ≡ vec_len order.old + 1) }
     ensures passed { reach.passed ≤ result.passed }
     ensures kept { (n : ℕ) → n ≤ reach.passed → take n (by_index history.new.items order.new.items) ≡ take n (by_index history.old.items order.old.items) }
-    ensures room { (vec_capacity history.old ≤ vec_capacity history.new) × (vec_capacity order.old ≤ vec_capacity order.new) }
+    ensures space { (vec_capacity history.old ≤ vec_capacity history.new) × (vec_capacity order.old ≤ vec_capacity order.new) }
 {
     let place = place_for(
         history.as_slice(),

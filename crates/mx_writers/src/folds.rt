@@ -60,7 +60,7 @@ pub trait Folds: Sized + Drop {
     ghost decides: { ℕ → List (Stored Self.Item) → Self.Draft → Decision Self.Item Self.Fault };
 
     /// Decides on a draft by the own list, which stays as it was. Where it answers `Items`, these are the pending block
-    /// then, with all room that `commit` needs. `Memory` where the allocator refuses what the items or that room need.
+    /// then, with all space that `commit` needs. `Memory` where the allocator refuses what the items or that space need.
     fn prepare(
         &mut self,
         alloc: Global,

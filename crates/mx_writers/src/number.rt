@@ -41,11 +41,11 @@ pub struct Numbers {
     pub(crate) writer: u8,
     pub(crate) stores: Vec<Stored<Number>>,
     pub(crate) pending: Option<Seq<Number>>,
-    ghost room: { ForSome pending (λ _. vec_len stores < vec_capacity stores) },
+    ghost space: { ForSome pending (λ _. vec_len stores < vec_capacity stores) },
 }
 
 impl Numbers {
-    /// Makes one number the pending block, with the room for its store.
+    /// Makes one number the pending block, with the space for its store.
     fn prepare_one(&mut self, alloc: Global, value: u64) -> Result<Prepared<Number>, Memory>
         ensures kept { (self.new.writer ≡ self.old.writer) × (self.new.stores.items ≡ self.old.stores.items) }
         ensures items { IfOk result (λ p. (p.items ≡ record { value = value } ∷ []) × (self.new.pending ≡ Some p.items)) }

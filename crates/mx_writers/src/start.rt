@@ -80,7 +80,7 @@ fn fresh_shards<F: Folds>(
     Ok(shards)
 }
 
-/// The numbers of a writer, without a store. `Memory` where the allocator refuses the room for the first.
+/// The numbers of a writer, without a store. `Memory` where the allocator refuses the space for the first.
 pub fn numbers(alloc: Global, writer: u8) -> Result<Numbers, Memory>
     ensures { IfOk result (λ n. (n.writer ≡ writer) × (n.stores.items ≡ [])) }
 {

@@ -21,7 +21,7 @@ use std::sync::Wait;
 /// is told nothing where the answer isn't a store. Waits for its turns at the stream, and never between draw and store
 /// for another writer's store. `Fault` exactly where the decision is that fault; `Full`
 /// only where the decision is items and the number of positions that were drawn was read at the stream's stop or past
-/// it by this call; `Memory` where the allocator refuses what the decision, the copy that is stored, or the room in the
+/// it by this call; `Memory` where the allocator refuses what the decision, the copy that is stored, or the space in the
 /// stream needs. On each refusal the own list is as before.
 pub fn write_in<F: Folds, G: Gate, R: Wait>(
     rt: &R,

@@ -7,7 +7,8 @@ use mx_json::Json;
 use std::alloc::Global;
 use std::process::Abort;
 
-const ROOM: RoomId = RoomId { writer: 0, at: 1 };
+/// The id of a room, as text.
+const ROOM: &str = "!0-1:example.org";
 
 /// The path of the field for which a filter is refused, `format` for its format, or nothing.
 fn refusal_is(fault: Option<FilterFault>, path: &str) -> bool {
@@ -88,7 +89,7 @@ fn passes(rt: &impl Abort, alloc: Global, row: &Json) -> bool {
         "state" => Part::State,
         _ => Part::Timeline,
     };
-    filter.passes(part, &ROOM, &event(rt, alloc, row), "example.org")
+    filter.passes(part, ROOM, &event(rt, alloc, row))
 }
 
 #[test]
@@ -123,7 +124,7 @@ fn an_event_passes_by_each_list(rt: HostRuntime) {
 fn says(rt: &impl Abort, filter: &Filter, row: &Json) -> bool {
     let limit = at(rt, row, 1).as_int().expect(rt, "a number");
     filter.limit == u64::try_from(limit).expect(rt, "a limit")
-        && filter.picks(&ROOM, "example.org") == bool_in(rt, row, 2)
+        && filter.picks(ROOM) == bool_in(rt, row, 2)
         && filter.selection.lazy == bool_in(rt, row, 3)
         && filter.selection.include_leave == bool_in(rt, row, 4)
         && filter.passes_type(DataPart::Account, "m.direct") == bool_in(rt, row, 5)

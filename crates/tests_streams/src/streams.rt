@@ -42,7 +42,7 @@ fn three(stream: &Stream<Number>, pens: Seq<Pen<Number>>) -> (Pen<Number>, Pen<N
     (first, second, third)
 }
 
-/// Makes room for one item and draws one position.
+/// Makes space for one item and draws one position.
 fn draw_one<R: Wait + Abort>(
     rt: &R,
     stream: &Stream<Number>,
@@ -101,7 +101,7 @@ fn holding<'a, R: Wait + Abort>(
     requires stream { place_of_pen pen ≡ place_of stream.now }
     requires free { (known pen).block ≡ None }
 {
-    let drawn = draw_one(rt, stream, &mut pen).expect(rt, "room");
+    let drawn = draw_one(rt, stream, &mut pen).expect(rt, "space");
     Holder { stream, pen, drawn }
 }
 
@@ -168,7 +168,7 @@ fn expect_last_position<R: Wait + Abort>(rt: &R, alloc: Global, holder: Holder<'
         drawn,
     } = holder;
     assert_eq!(rt; finish_one(rt, alloc, stream, &mut pen, drawn, 20), 3);
-    let last = draw_one(rt, stream, &mut pen).expect(rt, "room");
+    let last = draw_one(rt, stream, &mut pen).expect(rt, "space");
     assert_eq!(rt; last.first, 4);
     assert_eq!(rt; finish_one(rt, alloc, stream, &mut pen, last, 40), 4);
     assert_eq!(rt; draw_one(rt, stream, &mut pen), Err(Full { next: 4 }));
@@ -194,7 +194,7 @@ fn expect_one_position<R: Wait + Abort>(
     requires stream { place_of_pen pen.old ≡ place_of stream.now }
     requires free { (known pen.old).block ≡ None }
 {
-    let drawn = draw_one(rt, stream, pen).expect(rt, "room");
+    let drawn = draw_one(rt, stream, pen).expect(rt, "space");
     assert_eq!(rt; finish_one(rt, alloc, stream, pen, drawn, 10), 1);
     assert_eq!(rt; draw_one(rt, stream, pen), Err(Full { next: 1 }));
 }
@@ -259,7 +259,7 @@ fn store_noted<R: Wait + Abort>(
     requires pass { place_of_pass pass.old ≡ place_of stream.now }
     ensures { place_of_pass pass.new ≡ place_of_pass pass.old }
 {
-    let drawn = draw_one(rt, stream, pen).expect(rt, "room");
+    let drawn = draw_one(rt, stream, pen).expect(rt, "space");
     assert_eq!(rt; finish_one(rt, alloc, stream, pen, drawn, 10), 1);
     assert!(rt; stream.note(pen, pass).is_ok());
 }
@@ -304,7 +304,7 @@ fn after_blocks<R: Wait + Abort>(
 {
     'stores: for _ in 0..blocks {
         stream.reserve(rt, pen, 256).expect(rt, "memory");
-        let drawn = stream.draw(pen, 256).expect(rt, "room");
+        let drawn = stream.draw(pen, 256).expect(rt, "space");
         let items = numbers(alloc).expect(rt, "memory");
         stream.finish(rt, pen, drawn, items);
     }

@@ -43,5 +43,5 @@ shards-preserved g c =
       folds_left = omega (arith, left-2, c.next-in-shards.ensures.len, c.shards.invariant.folds_left);
       shards = one_more _ _ _ _ _ _ c.shards.invariant.shards (c.shard.ensures.0, ap place_of_pen c.shard.ensures.2 ∙ fresh.stream) c.push_reserved.ensures.items;
       filled = omega (arith, c.push_reserved.ensures.len, c.shards.invariant.filled);
-      room = omega (arith, c.push_reserved.ensures.capacity, c.shards.invariant.room);
+      space = omega (arith, c.push_reserved.ensures.capacity, c.shards.invariant.space);
     }

@@ -14,5 +14,5 @@ invariant-shards g l = record {
   folds_left : into_iter_len l.folds + l.index ≡ l.count;
   shards : AreShards (IsShardOf {g = g.F.Folds} {h = g.F.Item.Placed}) (place_of l.stream) l.index l.shards.items;
   filled : vec_len l.shards ≡ l.index;
-  room : l.count ≤ vec_capacity l.shards;
+  space : l.count ≤ vec_capacity l.shards;
 }

@@ -13,5 +13,5 @@ fetch_add-last-requires g c =
       search rules,
       search rules,
       drawable _ _ _ _ _ _ _ c.args.pen.now.seat.me _ c.load-next.ensures.2.0 c.args.pen.now.writes c.requires.free
-          (omega (arith, stops, c.if-next-self.false)) (omega (arith, n, c.requires.count.0)) (omega (arith, n, c.requires.count.1)) (omega (arith, n, c.requires.room)),
+          (omega (arith, stops, c.if-next-self.false)) (omega (arith, n, c.requires.count.0)) (omega (arith, n, c.requires.count.1)) (omega (arith, n, c.requires.space)),
     )

@@ -1,4 +1,4 @@
--- Room that is made before it is needed.
+-- Space that is made before it is needed.
 use Rattle.std.specs.Prelude.{ℕ, ◌+◌, ◌≤◌, List, [], ◌∷◌}
 
 abbrev pub total : List ℕ → ℕ
@@ -6,5 +6,5 @@ total [] = 0
 total (n ∷ ns) = n + total ns
 
 -- what is spare in all lanes fits beside what is used
-pub record HasRoom (spare : List ℕ) (used capacity : ℕ) : Type 0 where
+pub record HasSpace (spare : List ℕ) (used capacity : ℕ) : Type 0 where
   pub fits : used + total spare ≤ capacity

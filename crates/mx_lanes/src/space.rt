@@ -1,9 +1,9 @@
-//! Room that is made before it is needed.
+//! Space that is made before it is needed.
 
 ghost use Rattle.std.specs.Prelude.{◌≡◌, ◌≤◌, ◌*◌, length};
-ghost use Rattle.mx_lanes.specs.Room.{total};
+ghost use Rattle.mx_lanes.specs.Space.{total};
 
-/// How many items all lanes have room for.
+/// How many items all lanes have space for.
 pub fn total_spare(spares: &[u16]) -> usize
     requires { length spares.now ≤ 255 }
     ensures total { result ≡ total spares.now }

@@ -1,6 +1,6 @@
 use Rattle.std.proofs.Common.{◌≡◌, get_or, arith}
 use Rattle.mx_lanes.proofs.Books.{total_more}
-use Rattle.mx_lanes.proofs.room.total_spare.Goals as goal
+use Rattle.mx_lanes.proofs.space.total_spare.Goals as goal
 
 pub lanes-preserved : goal.lanes-preserved
 lanes-preserved c =
