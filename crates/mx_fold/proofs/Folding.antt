@@ -50,7 +50,8 @@ next_behind : (since : Option SyncToken) (fronts : SyncToken) → is_behind sinc
 next_behind None fronts h = tt
 next_behind (Some t) fronts h = h
 
-module _ {V D : Type 0} (w : Server V D) (h : Histories) (lawful : AreLawful h) (rests : RestsFold w (lists_of h)) (user : List ℕ) (f : Selection) (folds : sieves.folds f ≡ true) where
+module _ {V D : Type 0} (w : Server V D) (h : Histories) (lawful : AreLawful h) (rests : RestsFold w (lists_of h))
+    (user : List ℕ) (f : Selection) (folds : sieves.folds f ≡ true) where
   abbrev final : Lists
   final = lists_of h
 
@@ -84,13 +85,16 @@ module _ {V D : Type 0} (w : Server V D) (h : Histories) (lawful : AreLawful h) 
   rooms_agree : (fronts : SyncToken) (c : Client V) → Kept fronts c → chains.Agrees tokens stories (folded c)
   rooms_agree fronts c kept =
       subst (chains.Agrees tokens stories) (sym kept.comes)
-      (valid_folds tokens are_tokens user rooms (record { by_type = by_type w.name f folds; valid = (rooms_are_valid h.events lawful.orderly lawful.events).1; rest = rests user f })
+      (valid_folds tokens are_tokens user rooms
+      (record { by_type = by_type w.name f folds; valid = (rooms_are_valid h.events lawful.orderly lawful.events).1; rest = rests user f })
       kept.turns kept.taken)
 
   agrees_from : (fronts : SyncToken) (client : Option (Client V)) → KeptIf fronts client → IfSome client (Agrees w user f final)
   agrees_from fronts None kept = tt
   agrees_from fronts (Some c) kept = record {
-    rooms = λ room. holds_picture w final user f c.token c.front room (c.rooms room) (by_type w.name f folds room) ((rooms_are_valid h.events lawful.orderly lawful.events).1 room).ascends (rooms_agree fronts c kept room);
+    rooms =
+        λ room. holds_picture w final user f c.token c.front room (c.rooms room) (by_type w.name f folds room)
+        ((rooms_are_valid h.events lawful.orderly lawful.events).1 room).ascends (rooms_agree fronts c kept room);
     account = kept.account;
   }
 
@@ -98,7 +102,14 @@ module _ {V D : Type 0} (w : Server V D) (h : Histories) (lawful : AreLawful h) 
   passed : (low fronts : SyncToken) (client : Option (Client V)) → is_before low fronts ≡ true → KeptIf low client → KeptIf fronts client
   passed low fronts None up kept = tt
   passed low fronts (Some c) up kept =
-      record { turns = kept.turns; taken = kept.taken; comes = kept.comes; based = kept.based; reached = before_trans c.token low fronts kept.reached up; account = kept.account }
+      record {
+        turns = kept.turns;
+        taken = kept.taken;
+        comes = kept.comes;
+        based = kept.based;
+        reached = before_trans c.token low fronts kept.reached up;
+        account = kept.account;
+      }
 
   module _ (here : Lists) (mark : here ≡ upto (fronts_of here) final) (low : SyncToken) (up : is_before low (fronts_of here) ≡ true) where
     abbrev fronts : SyncToken
@@ -119,20 +130,24 @@ module _ {V D : Type 0} (w : Server V D) (h : Histories) (lawful : AreLawful h) 
       abbrev reply : Reply V D
       reply = reply_of w here user ask
 
-      told_is : IsBase tokens next.b since next → (room : RoomId) → reply.rooms room ≡ told tokens (stories room) (sync_in f extent) (heroes room) next.b since next
+      told_is : IsBase tokens next.b since next → (room : RoomId) → reply.rooms room
+          ≡ told tokens (stories room) (sync_in f extent) (heroes room) next.b since next
       told_is base room =
           ap (λ l. told tokens (story w l user f room) (sync_in f extent) (heroes room) next.b since next) (mark ∙ sym (upto_next final since fronts))
           ∙ told_at_mark w final (events_stand h lawful) user f room (sync_in f extent) (heroes room) next.b since next (next_behind since fronts behind) base
 
       taken_in : IsBase tokens next.b since next → (rooms : RoomId → Holding Event Key V) (room : RoomId)
           → with_told (story w no_lists user f room) extent.after (position tokens since) next.e (reply.rooms room) (rooms room)
-          ≡ with_told (stories room) extent.after (position tokens since) next.e (told tokens (stories room) (sync_in f extent) (heroes room) next.b since next) (rooms room)
+          ≡ with_told (stories room) extent.after (position tokens since) next.e
+          (told tokens (stories room) (sync_in f extent) (heroes room) next.b since next) (rooms room)
       taken_in base rooms room =
           same_told_read w user f room no_lists final extent.after (position tokens since) next.e (reply.rooms room) (rooms room)
           ∙ ap (λ t. with_told (stories room) extent.after (position tokens since) next.e t (rooms room)) (told_is base room)
 
       account_is : reply.account ≡ account_sent w final.accounts user f since fronts.a
-      account_is = ap (λ (l : Lists). account_sent w l.accounts user f since fronts.a) mark ∙ account_at_mark w final.accounts (accounts_stand h lawful) user f since fronts.a
+      account_is =
+          ap (λ (l : Lists). account_sent w l.accounts user f since fronts.a) mark
+          ∙ account_at_mark w final.accounts (accounts_stand h lawful) user f since fronts.a
 
     begins : (extent : Extent) → Kept fronts (after_reply w user f None 0 (nothing_held V) (λ kind. None) extent.after (reply None extent refl))
     begins extent = record {
@@ -143,7 +158,9 @@ module _ {V D : Type 0} (w : Server V D) (h : Histories) (lawful : AreLawful h) 
           λ i. record { token = Some (next None extent refl); base = fronts.e; front = max 0 fronts.e; rooms = λ room. rooms room i };
       based = omega arith;
       reached = next_before None fronts;
-      account = λ kind. option_or-none (content_at kind (reply None extent refl).account) ∙ ap (content_at kind) (account_is None extent refl) ∙ account_new w user f kind final.accounts fronts.a;
+      account =
+          λ kind. option_or-none (content_at kind (reply None extent refl).account) ∙ ap (content_at kind) (account_is None extent refl)
+          ∙ account_new w user f kind final.accounts fronts.a;
     }
 
     goes_on : (extent : Extent) (c : Client V) (behind : is_behind (Some c.token) fronts ≡ true) → Kept low c
@@ -156,7 +173,8 @@ module _ {V D : Type 0} (w : Server V D) (h : Histories) (lawful : AreLawful h) 
         let reaches : c.token.a ≤ fronts.a = parts.2 in
         let rooms = taken_in since extent behind kept.based c.rooms in
         let turn : Turn RoomId Event Key SyncToken = Synced (sync_in f extent) (heroes since extent behind) ends in
-        let after : folded (after_reply w user f since c.front c.rooms c.account extent.after (reply since extent behind)) ≡ after_turn tokens stories (folded c) turn =
+        let after : folded (after_reply w user f since c.front c.rooms c.account extent.after (reply since extent behind))
+        ≡ after_turn tokens stories (folded c) turn =
         λ i. record { token = Some ends; base = c.token.b; front = max c.front fronts.e; rooms = λ room. rooms room i } in
         record {
           turns = kept.turns ++ turn ∷ [];
@@ -177,7 +195,8 @@ module _ {V D : Type 0} (w : Server V D) (h : Histories) (lawful : AreLawful h) 
     replied extent (Some c) (Some since) behind kept =
         elim (cases_Bool (same_token c.token since)) [
           | inl same ↦ rw same (
-              subst (λ s. (b : is_behind (Some s) fronts ≡ true) → Kept fronts (after_reply w user f (Some s) c.front c.rooms c.account extent.after (reply (Some s) extent b))) (same_is c.token since same)
+              subst (λ s. (b : is_behind (Some s) fronts ≡ true)
+              → Kept fronts (after_reply w user f (Some s) c.front c.rooms c.account extent.after (reply (Some s) extent b))) (same_is c.token since same)
               (λ b. goes_on extent c b kept) behind)
           | inr other ↦ rw other (passed low fronts (Some c) up kept)
         ]
@@ -187,12 +206,15 @@ module _ {V D : Type 0} (w : Server V D) (h : Histories) (lawful : AreLawful h) 
     abbrev gaps : RoomId → Opening Event → RoomId → Option (Opening Event)
     gaps room gap other = cond (same_room other room) (Some gap) None
 
-    opens : (room : RoomId) (gap : Opening Event) (c : Client V) → IsOpen (Some gap) (c.rooms room) → (x : RoomId) (b : Bool) → same_room x room ≡ b → IsOpen (cond b (Some gap) None) (c.rooms x)
+    opens : (room : RoomId) (gap : Opening Event) (c : Client V) → IsOpen (Some gap) (c.rooms room) → (x : RoomId) (b : Bool)
+        → same_room x room ≡ b → IsOpen (cond b (Some gap) None) (c.rooms x)
     opens room gap c is x false e = tt
     opens room gap c is x true e = subst (λ y. IsOpen (Some gap) (c.rooms y)) (sym (same_room_is x room e)) is
 
-    page_same : (room : RoomId) (gap : Opening Event) (page : Page Event) (limit e : ℕ) → page ≡ page_of (stories room).room (stories room).events limit e gap.gap
-        → (had : Holding Event Key V) (x : RoomId) (b : Bool) → same_room x room ≡ b → cond b (page_into w user f x gap page had) had ≡ with_paged (stories x) limit e (cond b (Some gap) None) had
+    page_same : (room : RoomId) (gap : Opening Event) (page : Page Event) (limit e : ℕ) → page
+        ≡ page_of (stories room).room (stories room).events limit e gap.gap
+        → (had : Holding Event Key V) (x : RoomId) (b : Bool) → same_room x room ≡ b → cond b (page_into w user f x gap page had) had
+        ≡ with_paged (stories x) limit e (cond b (Some gap) None) had
     page_same room gap page limit e is had x false same = refl
     page_same room gap page limit e is had x true same =
         let there : page ≡ page_of (stories x).room (stories x).events limit e gap.gap =
@@ -201,7 +223,8 @@ module _ {V D : Type 0} (w : Server V D) (h : Histories) (lawful : AreLawful h) 
         ∙ ap (λ pg. with_page (stories x).room gap.gap gap.before gap.behind pg p.0.state) there in
         λ i. record { joined = option_map (λ (p : ClientRoom Event Key × V). (read p i, p.1)) had.joined; invited = had.invited }
 
-    pages : (asks : PageAsk) (c : Client V) → sieves.fits f asks.filter ≡ true → Kept low c → (o : Option (Opening Event)) → opening_of w user f asks (c.rooms asks.room) ≡ o
+    pages : (asks : PageAsk) (c : Client V) → sieves.fits f asks.filter ≡ true → Kept low c → (o : Option (Opening Event))
+        → opening_of w user f asks (c.rooms asks.room) ≡ o
         → Kept fronts (with_gap w user f fronts.e asks.room c (page_asked w here user asks) o)
     pages asks c fits kept None none = passed low fronts (Some c) up kept
     pages asks c fits kept (Some gap) some =
@@ -238,7 +261,8 @@ module _ {V D : Type 0} (w : Server V D) (h : Histories) (lawful : AreLawful h) 
           account = kept.account;
         }
 
-    shown : (asks : PageAsk) (client : Option (Client V)) → sieves.fits f asks.filter ≡ true → KeptIf low client → KeptIf fronts (with_shown w user f fronts.e asks (page_asked w here user asks) client)
+    shown : (asks : PageAsk) (client : Option (Client V)) → sieves.fits f asks.filter ≡ true → KeptIf low client
+        → KeptIf fronts (with_shown w user f fronts.e asks (page_asked w here user asks) client)
     shown asks None fits kept = tt
     shown asks (Some c) fits kept = pages asks c fits kept (opening_of w user f asks (c.rooms asks.room)) refl
 
@@ -250,7 +274,9 @@ module _ {V D : Type 0} (w : Server V D) (h : Histories) (lawful : AreLawful h) 
     syncs asks client kept true behind =
         elim (cases_Bool (sieves.same_filter asks.filter f)) [
           | inl same ↦ rw same (
-              subst (λ g. KeptIf fronts (with_reply w user f client asks.since asks.extent.after (reply_of w here user (record { filter = g; since = asks.since; extent = asks.extent })))) (sym (filters_are asks.filter f same))
+              subst (λ g. KeptIf fronts
+              (with_reply w user f client asks.since asks.extent.after
+              (reply_of w here user (record { filter = g; since = asks.since; extent = asks.extent })))) (sym (filters_are asks.filter f same))
               (replied asks.extent client asks.since behind kept))
           | inr other ↦ rw other (passed low fronts client up kept)
         ]
@@ -264,20 +290,24 @@ module _ {V D : Type 0} (w : Server V D) (h : Histories) (lawful : AreLawful h) 
           | inr other ↦ rw other (passed low fronts client up kept)
         ]
 
-    answered : (asks : Ask) (memory : Bool) (client : Option (Client V)) → KeptIf low client → KeptIf fronts (with_said w user f fronts.e (cond memory PassedOver (answer_to w here user asks)) client)
+    answered : (asks : Ask) (memory : Bool) (client : Option (Client V)) → KeptIf low client
+        → KeptIf fronts (with_said w user f fronts.e (cond memory PassedOver (answer_to w here user asks)) client)
     answered asks true client kept = passed low fronts client up kept
     answered (Syncs asks) false client kept = syncs asks client kept (is_behind asks.since fronts) refl
-    answered (Pages asks) false client kept = paged asks client kept (sees_room w here user asks.room && (nat_le asks.from_cut fronts.e && is_behind asks.to fronts))
+    answered (Pages asks) false client kept =
+        paged asks client kept (sees_room w here user asks.room && (nat_le asks.from_cut fronts.e && is_behind asks.to fronts))
     answered Else false client kept = passed low fronts client up kept
 
 -- ---- the exchanges
 
 rise_to : (h : Histories) (n m : Counts) → AreFewer n m → is_before (fronts_of (lists_at n h)) (fronts_of (lists_at m h)) ≡ true
 rise_to h n m few =
-    before_from (fronts_of (lists_at n h)) (fronts_of (lists_at m h)) (front_rises n.events m.events h.events few.events) (front_rises n.receipts m.receipts h.receipts few.receipts)
+    before_from (fronts_of (lists_at n h)) (fronts_of (lists_at m h)) (front_rises n.events m.events h.events few.events)
+    (front_rises n.receipts m.receipts h.receipts few.receipts)
     (front_rises n.accounts m.accounts h.accounts few.accounts) (omega arith)
 
-module _ {V D : Type 0} (w : Server V D) (h : Histories) (lawful : AreLawful h) (rests : RestsFold w (lists_of h)) (device : ℕ) (f : Selection) (folds : sieves.folds f ≡ true) where
+module _ {V D : Type 0} (w : Server V D) (h : Histories) (lawful : AreLawful h) (rests : RestsFold w (lists_of h))
+    (device : ℕ) (f : Selection) (folds : sieves.folds f ≡ true) where
   abbrev fronts_at : Counts → SyncToken
   fronts_at n = fronts_of (lists_at n h)
 
@@ -285,23 +315,30 @@ module _ {V D : Type 0} (w : Server V D) (h : Histories) (lawful : AreLawful h) 
   IsKept fronts client = KeptIf w h lawful rests (w.user_of device) f folds fronts client
 
   one_more : (low : Counts) (a : ℕ × Ask) (mark : Mark) (client : Option (Client V)) → AreFewer low mark.stores → IsKept (fronts_at low) client
-      → IsKept (fronts_at mark.stores) (cond (nat_eq a.0 device) (with_said w (w.user_of device) f (fronts_at mark.stores).e (exchange_at w h a mark).said client) client)
+      → IsKept (fronts_at mark.stores)
+      (cond (nat_eq a.0 device) (with_said w (w.user_of device) f (fronts_at mark.stores).e (exchange_at w h a mark).said client) client)
   one_more low a mark client few kept =
       let here : Lists = lists_at mark.stores h in
       let up = rise_to h low mark.stores few in
       elim (cases_Bool (nat_eq a.0 device)) [
         | inl mine ↦ rw mine (
-            subst (λ d. IsKept (fronts_at mark.stores) (with_said w (w.user_of device) f (fronts_of here).e (cond mark.memory PassedOver (answer_to w here (w.user_of d) a.1)) client)) (sym (eqb-true a.0 device mine))
+            subst (λ d. IsKept (fronts_at mark.stores)
+            (with_said w (w.user_of device) f (fronts_of here).e (cond mark.memory PassedOver (answer_to w here (w.user_of d) a.1)) client))
+            (sym (eqb-true a.0 device mine))
             (answered w h lawful rests (w.user_of device) f folds here (mark_upto h mark.stores) (fronts_at low) up a.1 mark.memory client kept))
         | inr other ↦ rw other (passed w h lawful rests (w.user_of device) f folds (fronts_at low) (fronts_at mark.stores) client up kept)
       ]
 
-  all_agree : (low : Counts) (client : Option (Client V)) (asked : List (ℕ × Ask)) (marks : List Mark) → MarksRise low marks (counts_of h) → IsKept (fronts_at low) client
+  all_agree : (low : Counts) (client : Option (Client V)) (asked : List (ℕ × Ask)) (marks : List Mark)
+      → MarksRise low marks (counts_of h) → IsKept (fronts_at low) client
       → IfSome (chain w device f client (exchanges w h asked marks)) (Agrees w (w.user_of device) f (lists_of h))
   all_agree low client [] marks rise kept = agrees_from w h lawful rests (w.user_of device) f folds (fronts_at low) client kept
   all_agree low client (a ∷ asked) [] rise kept = agrees_from w h lawful rests (w.user_of device) f folds (fronts_at low) client kept
   all_agree low client (a ∷ asked) (mark ∷ marks) rise kept =
-      all_agree mark.stores (cond (nat_eq a.0 device) (with_said w (w.user_of device) f (fronts_at mark.stores).e (exchange_at w h a mark).said client) client) asked marks rise.1 (one_more low a mark client rise.0 kept)
+      all_agree mark.stores
+      (cond (nat_eq a.0 device)
+      (with_said w (w.user_of device) f (fronts_at mark.stores).e (exchange_at w h a mark).said client) client) asked marks rise.1
+      (one_more low a mark client rise.0 kept)
 
 pub connections_agree : {V D : Type 0} → ConnectionsAgree V D
 connections_agree w h lawful rests asked marks rise device f folds = all_agree w h lawful rests device f folds no_stores None asked marks rise tt

@@ -26,7 +26,8 @@ some_of None p h = absurd (false≢true h)
 some_of (Some n) p h = ap Some (eqb-true n p h)
 
 -- whom a redaction among such copies names is redacted by the front
-pub named_redacted : {E K : Type 0} (r : Room E K) (es : List E) (front : ℕ) (v : E) (cs : List E) → IsRoom r es → AllByRecursion (λ c. IsCopy r es c × (r.at c ≤ front)) cs
+pub named_redacted : {E K : Type 0} (r : Room E K) (es : List E) (front : ℕ) (v : E) (cs : List E) → IsRoom r es
+    → AllByRecursion (λ c. IsCopy r es c × (r.at c ≤ front)) cs
     → is_named r cs (r.at v) ≡ true → is_redacted r es front v ≡ true
 named_redacted r es front v cs room copies named = true_from_ne_false (is_redacted r es front v) (λ none.
     let each : AllByRecursion (λ w. (nat_lt (r.at v) (r.at w) && nat_le (r.at w) front) ≡ true → is_some_of (r.names w) (r.at v) ≡ false) es =
@@ -43,19 +44,25 @@ named_redacted r es front v cs room copies named = true_from_ne_false (is_redact
           ap (λ o. is_some_of o (r.at v)) same ∙ elim (cases_Bool (is_some_of (r.names copy.event) (r.at v))) [
             | inr no_name ↦ no_name
             | inl names ↦
-                let later : r.at v < r.at copy.event = AllByRecursion-at (λ e. (p : ℕ) → r.names e ≡ Some p → p < r.at e) es copy.event room.earlier copy.listed (r.at v) (some_of (r.names copy.event) (r.at v) names) in
-                AllByRecursion-at (λ w. (nat_lt (r.at v) (r.at w) && nat_le (r.at w) front) ≡ true → is_some_of (r.names w) (r.at v) ≡ false) es copy.event each copy.listed
-                (and_from (nat_lt (r.at v) (r.at copy.event)) (nat_le (r.at copy.event) front) (lt-ltb (r.at v) (r.at copy.event) later) (le-leb (r.at copy.event) front (omega (arith, there, upto))))
+                let later : r.at v < r.at copy.event =
+                AllByRecursion-at (λ e. (p : ℕ) → r.names e ≡ Some p
+                → p < r.at e) es copy.event room.earlier copy.listed (r.at v) (some_of (r.names copy.event) (r.at v) names) in
+                AllByRecursion-at (λ w. (nat_lt (r.at v) (r.at w) && nat_le (r.at w) front) ≡ true
+                → is_some_of (r.names w) (r.at v) ≡ false) es copy.event each copy.listed
+                (and_from (nat_lt (r.at v) (r.at copy.event)) (nat_le (r.at copy.event) front) (lt-ltb (r.at v) (r.at copy.event) later)
+                (le-leb (r.at copy.event) front (omega (arith, there, upto))))
           ]
 
 -- what isn't redacted by a later front isn't redacted by an earlier one
-pub unredacted_before : {E K : Type 0} (r : Room E K) (es : List E) (front later : ℕ) (v : E) → front ≤ later → is_redacted r es later v ≡ false → is_redacted r es front v ≡ false
+pub unredacted_before : {E K : Type 0} (r : Room E K) (es : List E) (front later : ℕ) (v : E) → front ≤ later
+    → is_redacted r es later v ≡ false → is_redacted r es front v ≡ false
 unredacted_before r es front later v up none =
     ap (list_any (λ w. is_some_of (r.names w) (r.at v))) (sym (between-inner r.at (r.at v) front (r.at v) later es (omega arith) up))
     ∙ list_any-filter (λ w. is_some_of (r.names w) (r.at v)) (λ w. nat_lt (r.at v) (r.at w) && nat_le (r.at w) front) (between r.at (r.at v) later es) none
 
 -- a later front asks no more of a copy
-pub due_later : {E K : Type 0} (r : Room E K) (es : List E) (front later : ℕ) (named : ℕ → Bool) (c : E) → front ≤ later → IsDue r es front named c → IsDue r es later named c
+pub due_later : {E K : Type 0} (r : Room E K) (es : List E) (front later : ℕ) (named : ℕ → Bool) (c : E)
+    → front ≤ later → IsDue r es front named c → IsDue r es later named c
 due_later r es front later named c up due = record {
   copy = due.copy;
   redacted = due.redacted;
@@ -63,7 +70,8 @@ due_later r es front later named c up due = record {
 }
 
 -- a copy as it is sent at t, in a room where whom the timeline names is redacted by t
-pub due_new : {E K : Type 0} (r : Room E K) (es : List E) (t front : ℕ) (named : ℕ → Bool) (v : E) → t ≤ front → Contains es v → (named (r.at v) ≡ true → is_redacted r es t v ≡ true)
+pub due_new : {E K : Type 0} (r : Room E K) (es : List E) (t front : ℕ) (named : ℕ → Bool) (v : E) → t ≤ front
+    → Contains es v → (named (r.at v) ≡ true → is_redacted r es t v ≡ true)
     → IsDue r es front named (shown r es t v)
 due_new r es t front named v up in' early = record {
   copy = record { event = v; listed = in'; copied = elim (cases_Bool (is_redacted r es t v)) [ inl a ↦ inr (rw a refl) | inr a ↦ inl (rw a refl) ] };
@@ -72,7 +80,8 @@ due_new r es t front named v up in' early = record {
 }
 
 -- a copy after the redactions among new events
-pub due_redact : {E K : Type 0} (r : Room E K) (es by : List E) (front : ℕ) (named named' : ℕ → Bool) (c : E) → IsRoom r es → AllByRecursion (λ c. IsCopy r es c × (r.at c ≤ front)) by
+pub due_redact : {E K : Type 0} (r : Room E K) (es by : List E) (front : ℕ) (named named' : ℕ → Bool) (c : E)
+    → IsRoom r es → AllByRecursion (λ c. IsCopy r es c × (r.at c ≤ front)) by
     → ((p : ℕ) → named' p ≡ (named p || is_named r by p)) → IsDue r es front named c → IsDue r es front named' (redact_by r by c)
 due_redact r es by front named named' c room copies joined due =
     let there : r.at c ≡ r.at due.copy.event = copy_at r es c room due.copy in
@@ -90,21 +99,30 @@ due_redact r es by front named named' c room copies joined due =
       })
     ] where
       named_before : (p : ℕ) → is_named r by p ≡ false → named' p ≡ true → named p ≡ true
-      named_before p none is = elim (or_cases (named p) (is_named r by p) (sym (joined p) ∙ is)) [ inl a ↦ a | inr b ↦ absurd (both_ways (is_named r by p) none b) ]
+      named_before p none is =
+          elim (or_cases (named p) (is_named r by p) (sym (joined p) ∙ is)) [ inl a ↦ a | inr b ↦ absurd (both_ways (is_named r by p) none b) ]
 
 -- events of the list as they are sent at t are copies of it
-pub sent_copies : {E K : Type 0} (r : Room E K) (es : List E) (t front : ℕ) (xs : List E) → IsRoom r es → AllByRecursion (λ v. Contains es v) xs → AllByRecursion (λ v. r.at v ≤ front) xs
+pub sent_copies : {E K : Type 0} (r : Room E K) (es : List E) (t front : ℕ) (xs : List E) → IsRoom r es
+    → AllByRecursion (λ v. Contains es v) xs → AllByRecursion (λ v. r.at v ≤ front) xs
     → AllByRecursion (λ c. IsCopy r es c × (r.at c ≤ front)) (map (shown r es t) xs)
 sent_copies r es t front xs room in' upto =
     AllByRecursion-map (λ c. IsCopy r es c × (r.at c ≤ front)) (shown r es t) xs
     (AllByRecursion-weaker (λ v. Contains es v × (r.at v ≤ front)) (λ v. IsCopy r es (shown r es t v) × (r.at (shown r es t v) ≤ front))
-    (λ v h. ((due_new r es t t (λ p. false) v (omega arith) h.0 (λ is. absurd (false≢true is))).copy, subst (λ x. x ≤ front) (sym (shown-at r es room t v)) h.1))
+    (λ v h. (
+      (due_new r es t t (λ p. false) v (omega arith) h.0 (λ is. absurd (false≢true is))).copy,
+      subst
+          (λ x. x ≤ front) (sym (shown-at r es room t v)) h.1,
+    ))
     xs (AllByRecursion-both (λ v. Contains es v) (λ v. r.at v ≤ front) xs in' upto))
 
-pub sent_due : {E K : Type 0} (r : Room E K) (es : List E) (t front : ℕ) (named : ℕ → Bool) (xs : List E) → t ≤ front → AllByRecursion (λ v. Contains es v) xs → ((v : E) → named (r.at v) ≡ true → is_redacted r es t v ≡ true)
+pub sent_due : {E K : Type 0} (r : Room E K) (es : List E) (t front : ℕ) (named : ℕ → Bool) (xs : List E) → t ≤ front → AllByRecursion (λ v. Contains es v) xs
+    → ((v : E) → named (r.at v) ≡ true → is_redacted r es t v ≡ true)
     → AllByRecursion (IsDue r es front named) (map (shown r es t) xs)
 sent_due r es t front named xs up in' early =
-    AllByRecursion-map (IsDue r es front named) (shown r es t) xs (AllByRecursion-weaker (λ v. Contains es v) (λ v. IsDue r es front named (shown r es t v)) (λ v h. due_new r es t front named v up h (early v)) xs in')
+    AllByRecursion-map (IsDue r es front named) (shown r es t) xs
+    (AllByRecursion-weaker (λ v. Contains es v) (λ v. IsDue r es front named (shown r es t v))
+    (λ v h. due_new r es t front named v up h (early v)) xs in')
 
 pub is_named-append : {E K : Type 0} (r : Room E K) (xs ys : List E) (p : ℕ) → is_named r (xs ++ ys) p ≡ (is_named r xs p || is_named r ys p)
 is_named-append r xs ys p = list_any-append (λ e. is_some_of (r.names e) p) xs ys
@@ -112,4 +130,5 @@ is_named-append r xs ys p = list_any-append (λ e. is_some_of (r.names e) p) xs 
 pub is_named-redact : {E K : Type 0} (r : Room E K) (es by xs : List E) (p : ℕ) → IsRoom r es → is_named r (map (redact_by r by) xs) p ≡ is_named r xs p
 is_named-redact r es by xs p room =
     list_any-map (λ e. is_some_of (r.names e) p) (redact_by r by) xs
-    ∙ list_any-same (λ e. is_some_of (r.names (redact_by r by e)) p) (λ e. is_some_of (r.names e) p) (λ e. ap (λ o. is_some_of o p) (redact_by-names r es by room e)) xs
+    ∙ list_any-same (λ e. is_some_of (r.names (redact_by r by e)) p) (λ e. is_some_of (r.names e) p)
+    (λ e. ap (λ o. is_some_of o p) (redact_by-names r es by room e)) xs

@@ -43,7 +43,9 @@ sent_from r es limit front low from high q sent room h k e qe =
       is = is;
       low_q = low_q;
       q_high = q_high;
-      none = none_left (sendable r es front low q) (sendable r es front q high) (sendable r es front low high) sent (sendable-split r es front low q high room low_q q_high) is;
+      none =
+          none_left (sendable r es front low q) (sendable r es front q high) (sendable r es front low high) sent
+          (sendable-split r es front low q high room low_q q_high) is;
     }
 
 pub break_within : {E K : Type 0} (r : Room E K) (es : List E) (front low high : ℕ) → IsRoom r es → low ≤ high
@@ -53,12 +55,15 @@ break_within r es front low high room h =
     after-last r.at (λ e. is_kept r e && not (r.sends front e)) low high 0 es room.ascends h (break_at r es front low high) refl
 
 pub section_sent : {E K : Type 0} (r : Room E K) (es : List E) (after : Bool) (limit front low high : ℕ) → IsRoom r es → low ≤ high
-    → Sent r es front low high (cut r es front (window after limit low high)) (section r es front (window after limit low high)) (is_limited r es front (window after limit low high))
+    → Sent r es front low high (cut r es front (window after limit low high)) (section r es front (window after limit low high))
+    (is_limited r es front (window after limit low high))
 section_sent r es true limit front low high room h =
-    sent_from r es limit front low low high (cut r es front (window true limit low high)) (section r es front (window true limit low high)) room (omega arith) h refl refl
+    sent_from r es limit front low low high (cut r es front (window true limit low high))
+    (section r es front (window true limit low high)) room (omega arith) h refl refl
 section_sent r es false limit front low high room h =
     let facts = break_within r es front low high room h in
-    sent_from r es limit front low (break_at r es front low high) high (cut r es front (window false limit low high)) (section r es front (window false limit low high)) room facts.0 facts.1 refl refl
+    sent_from r es limit front low (break_at r es front low high) high (cut r es front (window false limit low high))
+    (section r es front (window false limit low high)) room facts.0 facts.1 refl refl
 
 -- with the state before the timeline, each kept event above the cut may be sent
 pub no_break : {E K : Type 0} (r : Room E K) (es : List E) (limit front low high : ℕ) → IsRoom r es → low ≤ high
@@ -74,16 +79,19 @@ no_break r es limit front low high room h =
     ap (list_any (λ e. is_kept r e && not (r.sends front e))) (sym inner)
     ∙ list_any-filter (λ e. is_kept r e && not (r.sends front e)) (λ e. nat_lt q (r.at e) && nat_le (r.at e) high) (between r.at b high es) facts.2 in
     AllByRecursion-weaker (λ e. (is_kept r e && not (r.sends front e)) ≡ false) (λ e. is_kept r e ≡ true → r.sends front e ≡ true)
-    (λ e n k. sends_from (is_kept r e) (r.sends front e) n k) (between r.at q high es) (AllByRecursion-none (λ e. is_kept r e && not (r.sends front e)) (between r.at q high es) none) where
+    (λ e n k. sends_from (is_kept r e) (r.sends front e) n k) (between r.at q high es) (AllByRecursion-none (λ e. is_kept r e
+    && not (r.sends front e)) (between r.at q high es) none) where
       sends_from : (a b : Bool) → (a && not b) ≡ false → a ≡ true → b ≡ true
       sends_from true true n k = refl
       sends_from true false n k = absurd (true≢false n)
       sends_from false b n k = absurd (false≢true k)
 
 pub chunk_sent : {E K : Type 0} (r : Room E K) (es : List E) (limit front low high : ℕ) → IsRoom r es → low ≤ high
-    → Sent r es front low high (before_first r.at high (chunk r es limit front low high)) (chunk r es limit front low high) (nat_lt (length (chunk r es limit front low high)) (length (sendable r es front low high)))
+    → Sent r es front low high (before_first r.at high (chunk r es limit front low high)) (chunk r es limit front low high)
+    (nat_lt (length (chunk r es limit front low high)) (length (sendable r es front low high)))
 chunk_sent r es limit front low high room h =
-    sent_from r es limit front low low high (before_first r.at high (chunk r es limit front low high)) (chunk r es limit front low high) room (omega arith) h refl refl
+    sent_from r es limit front low low high (before_first r.at high (chunk r es limit front low high))
+    (chunk r es limit front low high) room (omega arith) h refl refl
 
 -- what is sent of a window, as it is shown: in order, within the window, at the picture's positions
 pub shown_positions : {E K : Type 0} (r : Room E K) (es : List E) (front : ℕ) (xs : List E) → IsRoom r es → map r.at (map (shown r es front) xs) ≡ map r.at xs
@@ -95,29 +103,38 @@ sendable_ascends r es front low high room = Ascends-filter r.at low (r.sends fro
 pub sendable_within : {E K : Type 0} (r : Room E K) (es : List E) (front low high : ℕ) → AllByRecursion (λ e. r.at e ≤ high) (sendable r es front low high)
 sendable_within r es front low high =
     AllByRecursion-filter (λ e. r.at e ≤ high) (r.sends front) (between r.at low high es)
-    (AllByRecursion-weaker (λ e. (low < r.at e) × (r.at e ≤ high)) (λ e. r.at e ≤ high) (λ e h. h.1) (between r.at low high es) (between-within r.at low high es))
+    (AllByRecursion-weaker (λ e. (low < r.at e)
+    × (r.at e ≤ high)) (λ e. r.at e ≤ high) (λ e h. h.1) (between r.at low high es) (between-within r.at low high es))
 
-pub shown_ascends : {E K : Type 0} (r : Room E K) (es : List E) (front low : ℕ) (xs : List E) → IsRoom r es → Ascends r.at low xs → Ascends r.at low (map (shown r es front) xs)
+pub shown_ascends : {E K : Type 0} (r : Room E K) (es : List E) (front low : ℕ) (xs : List E) → IsRoom r es
+    → Ascends r.at low xs → Ascends r.at low (map (shown r es front) xs)
 shown_ascends r es front low xs room up = Ascends-map r.at r.at (shown r es front) (λ e. shown-at r es room front e) low xs up
 
-pub shown_within : {E K : Type 0} (r : Room E K) (es : List E) (front high : ℕ) (xs : List E) → IsRoom r es → AllByRecursion (λ e. r.at e ≤ high) xs → AllByRecursion (λ e. r.at e ≤ high) (map (shown r es front) xs)
+pub shown_within : {E K : Type 0} (r : Room E K) (es : List E) (front high : ℕ) (xs : List E) → IsRoom r es → AllByRecursion (λ e. r.at e ≤ high) xs
+    → AllByRecursion (λ e. r.at e ≤ high) (map (shown r es front) xs)
 shown_within r es front high xs room upto =
     AllByRecursion-map (λ e. r.at e ≤ high) (shown r es front) xs
-    (AllByRecursion-weaker (λ e. r.at e ≤ high) (λ e. r.at (shown r es front e) ≤ high) (λ e h. subst (λ x. x ≤ high) (sym (shown-at r es room front e)) h) xs upto)
+    (AllByRecursion-weaker (λ e. r.at e ≤ high) (λ e. r.at (shown r es front e) ≤ high)
+    (λ e h. subst (λ x. x ≤ high) (sym (shown-at r es room front e)) h) xs upto)
 
 none_more : {A : Type 0} (xs ys zs sent : List A) → zs ≡ xs ++ ys → sent ≡ ys → xs ≡ [] → nat_lt (length sent) (length zs) ≡ false
 none_more xs ys zs sent e f none = le-ltb (length sent) (length zs) (omega (arith, ap length e, ap length f, length-append xs ys, ap length none))
 
 pub section_is_window : {E K : Type 0} → SectionIsWindow E K
 section_is_window r es room after limit front low high q h is =
-    let facts : Sent r es front low high (cut r es front (window after limit low high)) (section r es front (window after limit low high)) (is_limited r es front (window after limit low high)) = section_sent r es after limit front low high room h in
-    subst (λ x. (section r es front (window after limit low high) ≡ sendable r es front x high) × (low ≤ x) × (x ≤ high) × ((is_limited r es front (window after limit low high) ≡ false) ↔ (sendable r es front low x ≡ []))) (sym is) (
+    let facts : Sent r es front low high (cut r es front (window after limit low high)) (section r es front (window after limit low high))
+    (is_limited r es front (window after limit low high)) =
+    section_sent r es after limit front low high room h in
+    subst (λ x. (section r es front (window after limit low high) ≡ sendable r es front x high) × (low ≤ x) × (x ≤ high)
+    × ((is_limited r es front (window after limit low high) ≡ false) ↔ (sendable r es front low x ≡ []))) (sym is) (
       facts.is,
       facts.low_q,
       facts.q_high,
       (
         facts.none,
-        none_more (sendable r es front low (cut r es front (window after limit low high))) (sendable r es front (cut r es front (window after limit low high)) high) (sendable r es front low high) (section r es front (window after limit low high))
+        none_more (sendable r es front low (cut r es front (window after limit low high)))
+            (sendable r es front (cut r es front (window after limit low high)) high) (sendable r es front low high)
+            (section r es front (window after limit low high))
             (sendable-split r es front low (cut r es front (window after limit low high)) high room facts.low_q facts.q_high) facts.is,
       ),
     )
@@ -125,4 +142,6 @@ section_is_window r es room after limit front low high q h is =
 pub sent_is_visible : {E K : Type 0} → SentIsVisible E K
 sent_is_visible r es after limit front low high =
     let from : ℕ = cond after low (break_at r es front low high) in
-    AllByRecursion-drop (λ e. r.sends front e ≡ true) (length (sendable r es front from high) - limit) (sendable r es front from high) (AllByRecursion-passed (r.sends front) (between r.at from high es))
+    AllByRecursion-drop (λ e. r.sends front e
+    ≡ true) (length (sendable r es front from high) - limit) (sendable r es front from high)
+    (AllByRecursion-passed (r.sends front) (between r.at from high es))

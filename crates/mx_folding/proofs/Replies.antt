@@ -29,10 +29,14 @@ pub contained_sendable : {E K : Type 0} (r : Room E K) (es : List E) (front low 
 contained_sendable r es front low high = AllByRecursion-filter (Contains es) (r.sends front) (between r.at low high es) (contained_window r es low high)
 
 pub contained_state : {E K : Type 0} (r : Room E K) (es : List E) (p : ℕ) → AllByRecursion (Contains es) (state_list r es p)
-contained_state r es p = AllByRecursion-filter (Contains es) (is_state r) (current (sets_same r) (between r.at 0 p es)) (AllByRecursion-current (Contains es) (sets_same r) (between r.at 0 p es) (contained_window r es 0 p))
+contained_state r es p =
+    AllByRecursion-filter (Contains es) (is_state r) (current (sets_same r) (between r.at 0 p es))
+    (AllByRecursion-current (Contains es) (sets_same r) (between r.at 0 p es) (contained_window r es 0 p))
 
 contained_part : {E K : Type 0} (r : Room E K) (es : List E) (pick : E → Bool) (p : ℕ) → AllByRecursion (Contains es) (state_part r es pick p)
-contained_part r es pick p = AllByRecursion-filter (Contains es) pick (filter (is_kept r) (state_list r es p)) (AllByRecursion-filter (Contains es) (is_kept r) (state_list r es p) (contained_state r es p))
+contained_part r es pick p =
+    AllByRecursion-filter (Contains es) pick (filter (is_kept r) (state_list r es p))
+    (AllByRecursion-filter (Contains es) (is_kept r) (state_list r es p) (contained_state r es p))
 
 pub held_within : {C : Type 0} (at : C → ℕ) (t low high : ℕ) (tl : List (Entry C)) → Rises at t low high tl → AllByRecursion (λ c. at c ≤ high) (held tl)
 held_within at t low high [] h = tt
@@ -40,7 +44,8 @@ held_within at t low high (Held c ∷ tl) h = (Rises-order at t (at c) high tl h
 held_within at t low high (Open gap ∷ tl) h = held_within at t gap.upper high tl h.3
 
 -- whom the timeline names is redacted by a front that its copies lie at or before
-pub named_early : {E K : Type 0} (r : Room E K) (es : List E) (front s t : ℕ) (named : ℕ → Bool) (tl : List (Entry E)) → IsRoom r es → s ≤ t → Rises r.at s 0 s tl → AllByRecursion (IsDue r es front named) (held tl)
+pub named_early : {E K : Type 0} (r : Room E K) (es : List E) (front s t : ℕ) (named : ℕ → Bool) (tl : List (Entry E)) → IsRoom r es
+    → s ≤ t → Rises r.at s 0 s tl → AllByRecursion (IsDue r es front named) (held tl)
     → (v : E) → is_named r (held tl) (r.at v) ≡ true → is_redacted r es t v ≡ true
 named_early r es front s t named tl room up order copies v is =
     named_redacted r es t v (held tl) room
@@ -48,11 +53,13 @@ named_early r es front s t named tl room up order copies v is =
     (AllByRecursion-weaker (IsDue r es front named) (IsCopy r es) (λ c d. d.copy) (held tl) copies)
     (AllByRecursion-weaker (λ c. r.at c ≤ s) (λ c. r.at c ≤ t) (λ c h. let h' : r.at c ≤ s = h in omega arith) (held tl) (held_within r.at s 0 s tl order))) is
 
-pub map_some : {E : Type 0} (f : E → E) (P : E → Type 0) (o : Option E) (c : E) → ((x : E) → ◌≡◌ {A = Option E} o (Some x) → P (f x)) → ◌≡◌ {A = Option E} (option_map f o) (Some c) → P c
+pub map_some : {E : Type 0} (f : E → E) (P : E → Type 0) (o : Option E) (c : E) → ((x : E) → ◌≡◌ {A = Option E} o (Some x) → P (f x))
+    → ◌≡◌ {A = Option E} (option_map f o) (Some c) → P c
 map_some f P None c h e = absurd (cc (e))
 map_some f P (Some x) c h e = let same : f x ≡ c = cc (e) in subst P same (h x refl)
 
-pub or_some : {E : Type 0} (P : E → Type 0) (a b : Option E) (c : E) → ((x : E) → ◌≡◌ {A = Option E} a (Some x) → P x) → ((x : E) → ◌≡◌ {A = Option E} b (Some x) → P x) → ◌≡◌ {A = Option E} (option_or a b) (Some c) → P c
+pub or_some : {E : Type 0} (P : E → Type 0) (a b : Option E) (c : E) → ((x : E) → ◌≡◌ {A = Option E} a (Some x) → P x)
+    → ((x : E) → ◌≡◌ {A = Option E} b (Some x) → P x) → ◌≡◌ {A = Option E} (option_or a b) (Some c) → P c
 or_some P None b c h k e = k c e
 or_some P (Some x) b c h k e = h c e
 
@@ -68,18 +75,21 @@ reply_puts r es true limit s t k room up = ap (λ l. option_map (shown r es t) (
 reply_puts r es false limit s t k room up =
     let q : ℕ = cut r es t (window false limit s t) in
     shown_last r es t k (section r es t (window false limit s t)) room
-    ∙ ap (option_map (shown r es t)) (ap (last_of (has r k)) (section_sent r es false limit t s t room up).is ∙ section_last r es t q t k room (no_break r es limit t s t room up))
+    ∙ ap (option_map (shown r es t)) (ap (last_of (has r k)) (section_sent r es false limit t s t room up).is
+    ∙ section_last r es t q t k room (no_break r es limit t s t room up))
 
 puts_due : {E : Type 0} (P : E → Type 0) (after : Bool) (xs : List E) → AllByRecursion P xs → AllByRecursion P (cond after [] xs)
 puts_due P true xs h = tt
 puts_due P false xs h = h
 
 -- the room after a part whose state part is picked so that what is held and has changed is sent, and what is owed and isn't sent was owed
-pub folds_part : {E K : Type 0} (r : Room E K) (es : List E) (after : Bool) (limit s t front front' b : ℕ) (pick : List E → E → Bool) (owed : K → E → Bool) (room : ClientRoom E K) → IsRoom r es → StaysSent r es s
+pub folds_part : {E K : Type 0} (r : Room E K) (es : List E) (after : Bool) (limit s t front front' b : ℕ) (pick : List E → E
+    → Bool) (owed : K → E → Bool) (room : ClientRoom E K) → IsRoom r es → StaysSent r es s
     → s ≤ t → front ≤ front' → t ≤ front'
     → ((k : K) (x h : E) → s < r.at x → ◌≡◌ {A = Option E} (room.state k) (Some h) → pick (section r es t (window after limit s t)) x ≡ true)
     → ((k : K) (v : E) → has r k v ≡ true
-    → is_owed r b t (room.timeline ++ gap_if (is_limited r es t (window after limit s t)) (gap_at s (cut r es t (window after limit s t)) t) ++ map Held (map (shown r es t) (section r es t (window after limit s t)))) k v ≡ true
+    → is_owed r b t (room.timeline ++ gap_if (is_limited r es t (window after limit s t)) (gap_at s (cut r es t (window after limit s t)) t)
+    ++ map Held (map (shown r es t) (section r es t (window after limit s t)))) k v ≡ true
     → pick (section r es t (window after limit s t)) v ≡ false → r.at v ≤ t → (r.at v ≤ s) × (owed k v ≡ true))
     → TimelineAgrees r es s room.timeline → StateAgrees r es s owed room.state
     → AllByRecursion (IsDue r es front (is_named r (held room.timeline))) (held room.timeline)
@@ -109,13 +119,18 @@ folds_part {E = E} r es after limit s t front front' b pick owed room is stays u
     let joined : (p : ℕ) → named' p ≡ (named p || is_named r sent p) =
     λ p. ap (λ l. is_named r l p) copies ∙ is_named-redact r es sent (held room.timeline ++ sent) p is ∙ is_named-append r (held room.timeline) sent p in
     let early : (v : E) → named (r.at v) ≡ true → is_redacted r es t v ≡ true = named_early r es front s t named room.timeline is up timeline.order held_due in
-    let due : (xs : List E) → AllByRecursion (Contains es) xs → AllByRecursion (IsDue r es front' named) (map (shown r es t) xs) = λ xs h. sent_due r es t front' named xs upto h early in
+    let due : (xs : List E) → AllByRecursion (Contains es) xs → AllByRecursion (IsDue r es front' named) (map (shown r es t) xs) =
+    λ xs h. sent_due r es t front' named xs upto h early in
     let by : AllByRecursion (λ c. IsCopy r es c × (r.at c ≤ front')) sent =
-    sent_copies r es t front' sec is in_sec (AllByRecursion-weaker (λ e. r.at e ≤ t) (λ e. r.at e ≤ front') (λ e h. let h' : r.at e ≤ t = h in omega arith) sec within) in
-    let redacted : (c : E) → IsDue r es front' named c → IsDue r es front' named' (redact_by r sent c) = λ c d. due_redact r es sent front' named named' c is by joined d in
+    sent_copies r es t front' sec is in_sec
+    (AllByRecursion-weaker (λ e. r.at e ≤ t) (λ e. r.at e ≤ front') (λ e h. let h' : r.at e ≤ t = h in omega arith) sec within) in
+    let redacted : (c : E) → IsDue r es front' named c → IsDue r es front' named' (redact_by r sent c) =
+    λ c d. due_redact r es sent front' named named' c is by joined d in
     record {
       timeline = record { whole = filled-redact r es sent is (pictured r es t) tl ∙ agrees.whole; order = Rises-redact r es sent is t 0 t tl agrees.order };
-      state = state_redact r es t (is_owed r b t tl) (is_owed r b t (map (redact_entry r sent) tl)) (redact_by r sent) (put_all r puts (put_all r part room.state)) (λ c. redact_by-at r es sent is c)
+      state =
+          state_redact r es t (is_owed r b t tl) (is_owed r b t (map (redact_entry r sent) tl)) (redact_by r sent)
+          (put_all r puts (put_all r part room.state)) (λ c. redact_by-at r es sent is c)
           (λ k v. owed_redact r es sent b t tl k v is)
           (state_reply r es s z t t (pick sec) part puts owed (is_owed r b t tl) room.state is bounds.0 bounds.1
           (λ k. reply_puts r es after limit s t k is up)
@@ -125,7 +140,8 @@ folds_part {E = E} r es after limit s t front front' b pick owed room is stays u
           (AllByRecursion-map (IsDue r es front' named') (redact_by r sent) (held room.timeline ++ sent)
           (AllByRecursion-weaker (IsDue r es front' named) (λ c. IsDue r es front' named' (redact_by r sent c)) redacted (held room.timeline ++ sent)
           (AllByRecursion-append (IsDue r es front' named) (held room.timeline) sent
-          (AllByRecursion-weaker (IsDue r es front named) (IsDue r es front' named) (λ c d. due_later r es front front' named c later d) (held room.timeline) held_due) (due sec in_sec))));
+          (AllByRecursion-weaker (IsDue r es front named) (IsDue r es front' named) (λ c d. due_later r es front front' named c later d)
+          (held room.timeline) held_due) (due sec in_sec))));
       state_copies = λ k c. map_some (redact_by r sent) (IsDue r es front' named') (put_all r puts (put_all r part room.state) k) c
           (λ x e. redacted x (or_some (IsDue r es front' named) (last_of (has r k) puts) (put_all r part room.state k) x
           (λ y f. (last_of-some (IsDue r es front' named) (has r k) puts y (puts_due (IsDue r es front' named) after sent (due sec in_sec)) f).1)
@@ -139,8 +155,11 @@ pub folds_reply : {E K : Type 0} → FoldsReply E K
 folds_reply {E = E} {K = K} r es is after limit from s t front front' b redundant heroes room stays first up later upto agrees =
     let sec : List E = section r es t (window after limit s t) in
     folds_part r es after limit s t front front' b (picks r redundant b s from heroes) (is_owed r b s room.timeline) room is stays up later upto
-    (λ k x h new there. or_left (nat_lt from (r.at x)) (r.lazy && (key_is r.member (r.key x) && ((key_is (is_sender r sec) (r.key x) || key_is heroes (r.key x)) && not (is_omitted r redundant b s x)))) (lt-ltb from (r.at x) (omega arith)))
-    (λ k v has owes unpicked within. owed_reply r es (is_limited r es t (window after limit s t)) from b s (cut r es t (window after limit s t)) t redundant heroes sec room.timeline k v is first up has owes unpicked)
+    (λ k x h new there. or_left (nat_lt from (r.at x)) (r.lazy
+    && (key_is r.member (r.key x) && ((key_is (is_sender r sec) (r.key x) || key_is heroes (r.key x)) && not (is_omitted r redundant b s x))))
+    (lt-ltb from (r.at x) (omega arith)))
+    (λ k v has owes unpicked within. owed_reply r es (is_limited r es t (window after limit s t)) from b s
+    (cut r es t (window after limit s t)) t redundant heroes sec room.timeline k v is first up has owes unpicked)
     agrees.timeline agrees.state agrees.held_copies agrees.state_copies
 
 -- an empty room after a new room's part
@@ -151,7 +170,9 @@ folds_new {E = E} {K = K} r es is after limit t front b heroes upto vacuous =
     folds_part r es after limit 0 t 0 front b (picks_new r heroes) (λ k v. false) (empty_room E K) is
     (λ t' h. subst (AllByRecursion (λ e. r.sends t' e ≡ r.sends 0 e)) (sym none) tt) (omega arith) (omega arith) upto
     (λ k x h new there. absurd (cc (there)))
-    (λ k v has owes unpicked within. absurd (owed_new r es (is_limited r es t (window after limit 0 t)) b (cut r es t (window after limit 0 t)) t heroes sec k v is vacuous has within owes unpicked))
+    (λ k v has owes unpicked within. absurd
+    (owed_new r es (is_limited r es t (window after limit 0 t)) b
+    (cut r es t (window after limit 0 t)) t heroes sec k v is vacuous has within owes unpicked))
     (record { whole = sym (ap (λ l. map r.at (filter (r.sends 0) l)) none); order = omega arith })
     (record { right = λ k c e. absurd (cc (e)); enough = λ k v e owes. absurd (false≢true owes) })
     tt (λ k c e. absurd (cc (e)))

@@ -23,32 +23,39 @@ pub state_split : {E K : Type 0} (r : Room E K) (es : List E) (p t : ℕ) (k : K
 state_split r es p t k room h = last_of-split r.at (has r k) 0 p t 0 es room.ascends (omega arith) h
 
 -- the last under a key among events that are shown
-pub shown_last : {E K : Type 0} (r : Room E K) (es : List E) (front : ℕ) (k : K) (xs : List E) → IsRoom r es → last_of (has r k) (map (shown r es front) xs) ≡ option_map (shown r es front) (last_of (has r k) xs)
+pub shown_last : {E K : Type 0} (r : Room E K) (es : List E) (front : ℕ) (k : K) (xs : List E) → IsRoom r es
+    → last_of (has r k) (map (shown r es front) xs) ≡ option_map (shown r es front) (last_of (has r k) xs)
 shown_last r es front k xs room =
     last_of-map (has r k) (shown r es front) xs
-    ∙ ap (option_map (shown r es front)) (last_of-same (λ e. has r k (shown r es front e)) (has r k) xs (AllByRecursion-every (λ e. has r k (shown r es front e) ≡ has r k e) (λ e. shown-has r es room front k e) xs))
+    ∙ ap (option_map (shown r es front))
+    (last_of-same (λ e. has r k (shown r es front e)) (has r k) xs (AllByRecursion-every (λ e. has r k (shown r es front e)
+    ≡ has r k e) (λ e. shown-has r es room front k e) xs))
 
 -- of the state at z, what is wanted has under each key the state's event there, if it is wanted
 pub wanted_last : {E K : Type 0} (r : Room E K) (es : List E) (wanted : E → Bool) (z : ℕ) (k : K) → IsRoom r es
     → last_of (has r k) (filter wanted (state_list r es z)) ≡ keep_if wanted (state_at r es z k)
 wanted_last r es wanted z k room =
     ap (last_of (has r k)) (filter-swap wanted (is_state r) (current (sets_same r) (between r.at 0 z es)))
-    ∙ last_of-filter (has r k) (is_state r) (filter wanted (current (sets_same r) (between r.at 0 z es))) (AllByRecursion-every (λ e. has r k e ≡ true → is_state r e ≡ true) (λ e h. has_state r k e h) (filter wanted (current (sets_same r) (between r.at 0 z es))))
+    ∙ last_of-filter (has r k) (is_state r) (filter wanted (current (sets_same r) (between r.at 0 z es))) (AllByRecursion-every (λ e. has r k e ≡ true
+    → is_state r e ≡ true) (λ e h. has_state r k e h) (filter wanted (current (sets_same r) (between r.at 0 z es))))
     ∙ last_of-picked (sets_same r) (has r k) (λ e f. one_key r es room k e f) wanted (between r.at 0 z es)
 
 pub part_last : {E K : Type 0} (r : Room E K) (es : List E) (pick : E → Bool) (z : ℕ) (k : K) → IsRoom r es
     → last_of (has r k) (state_part r es pick z) ≡ keep_if pick (state_at r es z k)
 part_last r es pick z k room =
     ap (last_of (has r k)) (filter-swap pick (is_kept r) (state_list r es z))
-    ∙ last_of-filter (has r k) (is_kept r) (filter pick (state_list r es z)) (AllByRecursion-every (λ e. has r k e ≡ true → is_kept r e ≡ true) (has_kept r es room k) (filter pick (state_list r es z)))
+    ∙ last_of-filter (has r k) (is_kept r) (filter pick (state_list r es z)) (AllByRecursion-every (λ e. has r k e ≡ true
+    → is_kept r e ≡ true) (has_kept r es room k) (filter pick (state_list r es z)))
     ∙ wanted_last r es pick z k room
 
 -- the section gives each key the last after the cut, where each kept event there may be sent
-pub section_last : {E K : Type 0} (r : Room E K) (es : List E) (front q high : ℕ) (k : K) → IsRoom r es → AllByRecursion (λ e. is_kept r e ≡ true → r.sends front e ≡ true) (between r.at q high es)
+pub section_last : {E K : Type 0} (r : Room E K) (es : List E) (front q high : ℕ) (k : K) → IsRoom r es
+    → AllByRecursion (λ e. is_kept r e ≡ true → r.sends front e ≡ true) (between r.at q high es)
     → last_of (has r k) (sendable r es front q high) ≡ last_of (has r k) (between r.at q high es)
 section_last r es front q high k room sends =
     last_of-filter (has r k) (r.sends front) (between r.at q high es)
-    (AllByRecursion-weaker (λ e. is_kept r e ≡ true → r.sends front e ≡ true) (λ e. has r k e ≡ true → r.sends front e ≡ true) (λ e h is. h (has_kept r es room k e is)) (between r.at q high es) sends)
+    (AllByRecursion-weaker (λ e. is_kept r e ≡ true → r.sends front e ≡ true) (λ e. has r k e ≡ true → r.sends front e
+    ≡ true) (λ e h is. h (has_kept r es room k e is)) (between r.at q high es) sends)
 
 right_after : {E : Type 0} (at : E → ℕ) (f : E → E) → ((e : E) → at (f e) ≡ at e) → (pick : E → Bool) (a b d before : Option E) (c : E)
     → ((h : E) → ◌≡◌ {A = Option E} before (Some h) → ◌≡◌ {A = Option ℕ} (option_map at d) (Some (at h)))
@@ -57,7 +64,8 @@ right_after : {E : Type 0} (at : E → ℕ) (f : E → E) → ((e : E) → at (f
     → ◌≡◌ {A = Option ℕ} (option_map at (option_or a (option_or b d))) (Some (at c))
 right_after at f same pick (Some a) b d before c right first e = ap Some (sym (same a)) ∙ ap (option_map at) e
 right_after at f same pick None (Some x) d before c right first e = go (pick x) refl e where
-  go : (p : Bool) → pick x ≡ p → ◌≡◌ {A = Option _} (option_or (option_map f (cond p (Some x) None)) before) (Some c) → ◌≡◌ {A = Option ℕ} (Some (at x)) (Some (at c))
+  go : (p : Bool) → pick x ≡ p → ◌≡◌ {A = Option _} (option_or (option_map f (cond p (Some x) None)) before) (Some c)
+      → ◌≡◌ {A = Option ℕ} (Some (at x)) (Some (at c))
   go true p eq = ap Some (sym (same x)) ∙ ap (option_map at) eq
   go false p eq = absurd (both_ways (pick x) p (first x c refl eq))
 right_after at f same pick None None (Some x) before c right first e = go (pick x) e where
@@ -80,12 +88,16 @@ enough_after f pick None None (Some x) before v e first second = go (pick x) ref
   go false p = let same : x ≡ v = cc (e) in second e (ap pick (sym same) ∙ p)
 enough_after f pick None None None before v e first second = absurd (cc (e))
 
-last_above : {E K : Type 0} (r : Room E K) (es : List E) (low high : ℕ) (k : K) (x : E) → ◌≡◌ {A = Option E} (last_of (has r k) (between r.at low high es)) (Some x) → (has r k x ≡ true) × (low < r.at x) × (r.at x ≤ high)
+last_above : {E K : Type 0} (r : Room E K) (es : List E) (low high : ℕ) (k : K) (x : E)
+    → ◌≡◌ {A = Option E} (last_of (has r k) (between r.at low high es)) (Some x) → (has r k x ≡ true) × (low < r.at x) × (r.at x ≤ high)
 last_above r es low high k x e =
-    let facts = last_of-some (λ e. (low < r.at e) × (r.at e ≤ high)) (has r k) (between r.at low high es) x (between-within r.at low high es) e in (facts.0, facts.1.0, facts.1.1)
+    let facts =
+    last_of-some (λ e. (low < r.at e)
+    × (r.at e ≤ high)) (has r k) (between r.at low high es) x (between-within r.at low high es) e in (facts.0, facts.1.0, facts.1.1)
 
 -- the state after a reply, whose state part is that at z, and which puts the last after z under each key
-pub state_reply : {E K : Type 0} (r : Room E K) (es : List E) (s z t front : ℕ) (pick : E → Bool) (part puts : List E) (owed owed' : K → E → Bool) (state : K → Option E) → IsRoom r es
+pub state_reply : {E K : Type 0} (r : Room E K) (es : List E) (s z t front : ℕ) (pick : E → Bool) (part puts : List E) (owed owed' : K
+    → E → Bool) (state : K → Option E) → IsRoom r es
     → s ≤ z → z ≤ t
     → ((k : K) → ◌≡◌ {A = Option E} (last_of (has r k) puts) (option_map (shown r es front) (last_of (has r k) (between r.at z t es))))
     → ((k : K) → ◌≡◌ {A = Option E} (last_of (has r k) part) (option_map (shown r es front) (keep_if pick (state_at r es z k))))
@@ -95,22 +107,31 @@ pub state_reply : {E K : Type 0} (r : Room E K) (es : List E) (s z t front : ℕ
 state_reply r es s z t front pick part puts owed owed' state room low high put told first second agrees = record {
   right = λ k c e.
       ap (option_map r.at) (splits k)
-      ∙ right_after r.at (shown r es front) (λ x. shown-at r es room front x) pick (last_of (has r k) (between r.at z t es)) (last_of (has r k) (between r.at s z es)) (state_at r es s k) (state k) c
+      ∙ right_after r.at (shown r es front) (λ x. shown-at r es room front x) pick (last_of (has r k) (between r.at z t es))
+      (last_of (has r k) (between r.at s z es)) (state_at r es s k) (state k) c
       (λ h is. agrees.right k h is) (λ x h is there. first k x h (last_above r es s z k x is).1 there) (sym (after_key k) ∙ e);
   enough = λ k v is owes.
       let facts = last_of-some (λ e. (0 < r.at e) × (r.at e ≤ t)) (has r k) (between r.at 0 t es) v (between-within r.at 0 t es) is in
-      let found = enough_after (shown r es front) pick (last_of (has r k) (between r.at z t es)) (last_of (has r k) (between r.at s z es)) (state_at r es s k) (state k) v
+      let found =
+      enough_after (shown r es front) pick (last_of (has r k) (between r.at z t es))
+      (last_of (has r k) (between r.at s z es)) (state_at r es s k) (state k) v
       (sym (splits k) ∙ is)
-      (λ new. true_from_ne_false (pick v) (λ p. let k' = second k v facts.0 owes p facts.1.1 in let l : s < r.at v = (last_above r es s z k v new).1 in let m : r.at v ≤ s = k'.0 in absurd (omega arith)))
+      (λ new. true_from_ne_false (pick v)
+      (λ p. let k' = second k v facts.0 owes p facts.1.1 in let l : s < r.at v = (last_above r es s z k v new).1 in
+      let m : r.at v ≤ s = k'.0 in absurd (omega arith)))
       (λ old p. agrees.enough k v old (second k v facts.0 owes p facts.1.1).1) in
       (found.0, after_key k ∙ found.1);
 } where
-  splits : (k : _) → state_at r es t k ≡ option_or (last_of (has r k) (between r.at z t es)) (option_or (last_of (has r k) (between r.at s z es)) (state_at r es s k))
+  splits : (k : _) → state_at r es t k
+      ≡ option_or (last_of (has r k) (between r.at z t es)) (option_or (last_of (has r k) (between r.at s z es)) (state_at r es s k))
   splits k = state_split r es z t k room high ∙ ap (option_or (last_of (has r k) (between r.at z t es))) (state_split r es s z k room low)
 
   after_key : (k : _) → put_all r puts (put_all r part state) k
-      ≡ option_or (option_map (shown r es front) (last_of (has r k) (between r.at z t es))) (option_or (option_map (shown r es front) (keep_if pick (option_or (last_of (has r k) (between r.at s z es)) (state_at r es s k)))) (state k))
-  after_key k = ap₂ (λ x y. option_or x (option_or y (state k))) (put k) (told k ∙ ap (λ o. option_map (shown r es front) (keep_if pick o)) (state_split r es s z k room low))
+      ≡ option_or (option_map (shown r es front) (last_of (has r k) (between r.at z t es)))
+      (option_or (option_map (shown r es front) (keep_if pick (option_or (last_of (has r k) (between r.at s z es)) (state_at r es s k)))) (state k))
+  after_key k =
+      ap₂ (λ x y. option_or x (option_or y (state k))) (put k) (told k
+      ∙ ap (λ o. option_map (shown r es front) (keep_if pick o)) (state_split r es s z k room low))
 
 right_page : {E : Type 0} (at : E → ℕ) (f : E → E) → ((e : E) → at (f e) ≡ at e) → (wanted : E → Bool) (b g before : Option E) (c : E)
     → ((h : E) → ◌≡◌ {A = Option E} before (Some h) → ◌≡◌ {A = Option ℕ} (option_map at (option_or b g)) (Some (at h)))
@@ -136,7 +157,8 @@ enough_page f wanted None (Some x) None v e late (inl h) = absurd (cc (h.1))
 enough_page f wanted None (Some x) None v e late (inr w) = let same : x ≡ v = cc (e) in let p : wanted x ≡ true = ap wanted same ∙ w in rw p (f x, refl)
 
 -- the state after a page of a gap that was cut at g: its members are those of the state at g that are wanted
-pub state_page : {E K : Type 0} (r : Room E K) (es : List E) (g t front : ℕ) (wanted : E → Bool) (members : List E) (owed owed' : K → E → Bool) (state : K → Option E) → IsRoom r es
+pub state_page : {E K : Type 0} (r : Room E K) (es : List E) (g t front : ℕ) (wanted : E → Bool) (members : List E) (owed owed' : K
+    → E → Bool) (state : K → Option E) → IsRoom r es
     → g ≤ t
     → ((k : K) → ◌≡◌ {A = Option E} (last_of (has r k) members) (option_map (shown r es front) (keep_if wanted (state_at r es g k))))
     → ((k : K) (v : E) → g < r.at v → owed k v ≡ true)
@@ -146,7 +168,8 @@ state_page r es g t front wanted members owed owed' state room up told late more
   right = λ k c e.
       ap (option_map r.at) (state_split r es g t k room up)
       ∙ right_page r.at (shown r es front) (λ x. shown-at r es room front x) wanted (last_of (has r k) (between r.at g t es)) (state_at r es g k) (state k) c
-      (λ h is. ap (option_map r.at) (sym (state_split r es g t k room up)) ∙ agrees.right k h is) (λ v is. lately k v is) (ap (option_or (state k)) (sym (told k)) ∙ e);
+      (λ h is. ap (option_map r.at) (sym (state_split r es g t k room up))
+      ∙ agrees.right k h is) (λ v is. lately k v is) (ap (option_or (state k)) (sym (told k)) ∙ e);
   enough = λ k v is owes.
       let facts = last_of-some (λ e. (0 < r.at e) × (r.at e ≤ t)) (has r k) (between r.at 0 t es) v (between-within r.at 0 t es) is in
       let found = enough_page (shown r es front) wanted (last_of (has r k) (between r.at g t es)) (state_at r es g k) (state k) v
@@ -158,7 +181,8 @@ state_page r es g t front wanted members owed owed' state room up told late more
   lately k v is = agrees.enough k v (state_split r es g t k room up ∙ ap (λ o. option_or o (state_at r es g k)) is) (late k v (last_above r es g t k v is).1)
 
 -- a state whose copies are replaced at their positions agrees as before
-pub state_redact : {E K : Type 0} (r : Room E K) (es : List E) (t : ℕ) (owed owed' : K → E → Bool) (f : E → E) (state : K → Option E) → ((e : E) → r.at (f e) ≡ r.at e)
+pub state_redact : {E K : Type 0} (r : Room E K) (es : List E) (t : ℕ) (owed owed' : K → E → Bool) (f : E → E) (state : K → Option E)
+    → ((e : E) → r.at (f e) ≡ r.at e)
     → ((k : K) (v : E) → owed' k v ≡ owed k v) → StateAgrees r es t owed state → StateAgrees r es t owed' (λ k. option_map f (state k))
 state_redact r es t owed owed' f state same same_owed agrees = record {
   right = λ k c e. right_map r.at f same (option_map r.at (state_at r es t k)) (state k) c (λ h is. agrees.right k h is) e;

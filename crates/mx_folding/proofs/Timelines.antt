@@ -30,18 +30,21 @@ pictured-stays r es s t low high stays up in' = ap (map r.at) (sendable-stays r 
 pub sendable-split : {E K : Type 0} (r : Room E K) (es : List E) (t low mid high : ℕ) → IsRoom r es → low ≤ mid → mid ≤ high
     → sendable r es t low high ≡ sendable r es t low mid ++ sendable r es t mid high
 sendable-split r es t low mid high is h k =
-    ap (filter (r.sends t)) (between-split r.at low mid high 0 es is.ascends h k) ∙ filter-append (r.sends t) (between r.at low mid es) (between r.at mid high es)
+    ap (filter (r.sends t)) (between-split r.at low mid high 0 es is.ascends h k)
+    ∙ filter-append (r.sends t) (between r.at low mid es) (between r.at mid high es)
 
 pub pictured-split : {E K : Type 0} (r : Room E K) (es : List E) (t low mid high : ℕ) → IsRoom r es → low ≤ mid → mid ≤ high
     → pictured r es t low high ≡ pictured r es t low mid ++ pictured r es t mid high
 pictured-split r es t low mid high is h k =
     ap (map r.at) (sendable-split r es t low mid high is h k) ∙ map-append r.at (sendable r es t low mid) (sendable r es t mid high)
 
-pub filled-append : {C : Type 0} (at : C → ℕ) (picture : ℕ → ℕ → List ℕ) (xs ys : List (Entry C)) → filled at picture (xs ++ ys) ≡ filled at picture xs ++ filled at picture ys
+pub filled-append : {C : Type 0} (at : C → ℕ) (picture : ℕ → ℕ → List ℕ) (xs ys : List (Entry C))
+    → filled at picture (xs ++ ys) ≡ filled at picture xs ++ filled at picture ys
 filled-append at picture [] ys = refl
 filled-append at picture (Held c ∷ xs) ys = ap (λ l. at c ∷ l) (filled-append at picture xs ys)
 filled-append at picture (Open gap ∷ xs) ys =
-    ap (λ l. picture gap.lower gap.upper ++ l) (filled-append at picture xs ys) ∙ sym (append_assoc (picture gap.lower gap.upper) (filled at picture xs) (filled at picture ys))
+    ap (λ l. picture gap.lower gap.upper ++ l) (filled-append at picture xs ys)
+    ∙ sym (append_assoc (picture gap.lower gap.upper) (filled at picture xs) (filled at picture ys))
 
 pub filled-held : {C : Type 0} (at : C → ℕ) (picture : ℕ → ℕ → List ℕ) (cs : List C) → filled at picture (map Held cs) ≡ map at cs
 filled-held at picture [] = refl
@@ -56,14 +59,16 @@ pub Rises-order : {C : Type 0} (at : C → ℕ) (t low high : ℕ) (es : List (E
 Rises-order at t low high [] h = h
 Rises-order at t low high (Held c ∷ es) h = let first : low < at c = h.0 in let rest : at c ≤ high = Rises-order at t (at c) high es h.1 in omega arith
 Rises-order at t low high (Open gap ∷ es) h =
-    let first : low ≤ gap.lower = h.0 in let next : gap.lower ≤ gap.upper = h.1 in let rest : gap.upper ≤ high = Rises-order at t gap.upper high es h.3 in omega arith
+    let first : low ≤ gap.lower =
+    h.0 in let next : gap.lower ≤ gap.upper = h.1 in let rest : gap.upper ≤ high = Rises-order at t gap.upper high es h.3 in omega arith
 
 pub Rises-lower : {C : Type 0} (at : C → ℕ) (t low mid high : ℕ) (es : List (Entry C)) → Rises at t mid high es → low ≤ mid → Rises at t low high es
 Rises-lower at t low mid high [] h k = let h' : mid ≤ high = h in omega arith
 Rises-lower at t low mid high (Held c ∷ es) h k = let first : mid < at c = h.0 in (omega arith, h.1)
 Rises-lower at t low mid high (Open gap ∷ es) h k = let first : mid ≤ gap.lower = h.0 in (omega arith, h.1, h.2, h.3)
 
-pub Rises-append : {C : Type 0} (at : C → ℕ) (t low mid high : ℕ) (xs ys : List (Entry C)) → Rises at t low mid xs → Rises at t mid high ys → Rises at t low high (xs ++ ys)
+pub Rises-append : {C : Type 0} (at : C → ℕ) (t low mid high : ℕ) (xs ys : List (Entry C)) → Rises at t low mid xs
+    → Rises at t mid high ys → Rises at t low high (xs ++ ys)
 Rises-append at t low mid high [] ys h k = Rises-lower at t low mid high ys k h
 Rises-append at t low mid high (Held c ∷ xs) ys h k = (h.0, Rises-append at t (at c) mid high xs ys h.1 k)
 Rises-append at t low mid high (Open gap ∷ xs) ys h k = (h.0, h.1, h.2, Rises-append at t gap.upper mid high xs ys h.3 k)
@@ -73,16 +78,19 @@ Rises-front at s t low high [] up h = h
 Rises-front at s t low high (Held c ∷ es) up h = (h.0, Rises-front at s t (at c) high es up h.1)
 Rises-front at s t low high (Open gap ∷ es) up h = let cut_at : gap.front ≤ s = h.2 in (h.0, h.1, omega arith, Rises-front at s t gap.upper high es up h.3)
 
-pub Rises-held : {C : Type 0} (at : C → ℕ) (t low high : ℕ) (cs : List C) → Ascends at low cs → AllByRecursion (λ c. at c ≤ high) cs → low ≤ high → Rises at t low high (map Held cs)
+pub Rises-held : {C : Type 0} (at : C → ℕ) (t low high : ℕ) (cs : List C) → Ascends at low cs
+    → AllByRecursion (λ c. at c ≤ high) cs → low ≤ high → Rises at t low high (map Held cs)
 Rises-held at t low high [] up upto h = h
 Rises-held at t low high (c ∷ cs) up upto h = (up.0, Rises-held at t (at c) high cs up.1 upto.1 upto.0)
 
-pub Rises-gap : {C : Type 0} (at : C → ℕ) (t low high front : ℕ) (open_still : Bool) → low ≤ high → front ≤ t → Rises {C = C} at t low high (gap_if open_still (gap_at low high front))
+pub Rises-gap : {C : Type 0} (at : C → ℕ) (t low high front : ℕ) (open_still : Bool) → low ≤ high → front ≤ t
+    → Rises {C = C} at t low high (gap_if open_still (gap_at low high front))
 Rises-gap at t low high front true h k = (omega arith, h, k, omega arith)
 Rises-gap at t low high front false h k = h
 
 -- a gap that stands in a timeline, and the two halves around it
-pub Rises-around : {C : Type 0} (at : C → ℕ) (t low high lower upper front : ℕ) (before behind : List (Entry C)) → Rises at t low high (before ++ Open (gap_at lower upper front) ∷ behind)
+pub Rises-around : {C : Type 0} (at : C → ℕ) (t low high lower upper front : ℕ) (before behind : List (Entry C))
+    → Rises at t low high (before ++ Open (gap_at lower upper front) ∷ behind)
     → Rises at t low lower before × (lower ≤ upper) × (front ≤ t) × Rises at t upper high behind
 Rises-around at t low high lower upper front [] behind h = (h.0, h.1, h.2, h.3)
 Rises-around at t low high lower upper front (Held c ∷ before) behind h =
@@ -99,21 +107,28 @@ filled-same at p q t low high (Open gap ∷ es) h k =
     ap₂ (λ a b. a ++ b) (k gap.lower gap.upper (Rises-order at t gap.upper high es h.3)) (filled-same at p q t gap.upper high es h.3 k)
 
 -- a timeline's picture and order don't change where entries are replaced at their positions
-pub filled-redact : {E K : Type 0} (r : Room E K) (es by : List E) (is : IsRoom r es) (picture : ℕ → ℕ → List ℕ) (tl : List (Entry E)) → filled r.at picture (map (redact_entry r by) tl) ≡ filled r.at picture tl
+pub filled-redact : {E K : Type 0} (r : Room E K) (es by : List E) (is : IsRoom r es) (picture : ℕ → ℕ → List ℕ) (tl : List (Entry E))
+    → filled r.at picture (map (redact_entry r by) tl) ≡ filled r.at picture tl
 filled-redact r es by is picture [] = refl
 filled-redact r es by is picture (Held c ∷ tl) = ap₂ (λ a b. a ∷ b) (redact_by-at r es by is c) (filled-redact r es by is picture tl)
 filled-redact r es by is picture (Open gap ∷ tl) = ap (λ l. picture gap.lower gap.upper ++ l) (filled-redact r es by is picture tl)
 
-pub Rises-redact : {E K : Type 0} (r : Room E K) (es by : List E) (is : IsRoom r es) (t low high : ℕ) (tl : List (Entry E)) → Rises r.at t low high tl → Rises r.at t low high (map (redact_entry r by) tl)
+pub Rises-redact : {E K : Type 0} (r : Room E K) (es by : List E) (is : IsRoom r es) (t low high : ℕ) (tl : List (Entry E))
+    → Rises r.at t low high tl → Rises r.at t low high (map (redact_entry r by) tl)
 Rises-redact r es by is t low high [] h = h
 Rises-redact r es by is t low high (Held c ∷ tl) h =
-    let same : r.at (redact_by r by c) ≡ r.at c = redact_by-at r es by is c in
-    (subst (λ x. low < x) (sym same) h.0, subst (λ x. Rises r.at t x high (map (redact_entry r by) tl)) (sym same) (Rises-redact r es by is t (r.at c) high tl h.1))
+    let same : r.at (redact_by r by c) ≡ r.at c = redact_by-at r es by is c in (
+      subst (λ x. low < x) (sym same) h.0,
+      subst (λ x. Rises r.at t x high (map (redact_entry r by) tl))
+          (sym same) (Rises-redact r es by is t (r.at c) high tl h.1),
+    )
 Rises-redact r es by is t low high (Open gap ∷ tl) h = (h.0, h.1, h.2, Rises-redact r es by is t gap.upper high tl h.3)
 
 -- the timeline after a reply: the section is a window, and so is what the gap leaves out
-pub timeline_reply : {E K : Type 0} (r : Room E K) (es : List E) (s t q : ℕ) (limited : Bool) (sent : List E) (tl : List (Entry E)) → IsRoom r es → StaysSent r es s
-    → s ≤ q → q ≤ t → map r.at sent ≡ pictured r es t q t → Ascends r.at q sent → AllByRecursion (λ e. r.at e ≤ t) sent → (limited ≡ false → pictured r es t s q ≡ [])
+pub timeline_reply : {E K : Type 0} (r : Room E K) (es : List E) (s t q : ℕ) (limited : Bool) (sent : List E) (tl : List (Entry E))
+    → IsRoom r es → StaysSent r es s
+    → s ≤ q → q ≤ t → map r.at sent ≡ pictured r es t q t → Ascends r.at q sent → AllByRecursion (λ e. r.at e ≤ t) sent
+    → (limited ≡ false → pictured r es t s q ≡ [])
     → TimelineAgrees r es s tl → TimelineAgrees r es t (tl ++ gap_if limited (gap_at s q t) ++ map Held sent)
 timeline_reply {E = E} r es s t q limited sent tl is stays low high sends up upto none agrees =
     let p : ℕ → ℕ → List ℕ = pictured r es t in
@@ -135,9 +150,12 @@ timeline_reply {E = E} r es s t q limited sent tl is stays low high sends up upt
     }
 
 -- the timeline after a page: the gap's stretch is split in two
-pub timeline_page : {E K : Type 0} (r : Room E K) (es : List E) (t lower upper g mid : ℕ) (more : Bool) (sent : List E) (before behind : List (Entry E)) → IsRoom r es
-    → lower ≤ mid → mid ≤ upper → map r.at sent ≡ pictured r es t mid upper → Ascends r.at mid sent → AllByRecursion (λ e. r.at e ≤ upper) sent → (more ≡ false → pictured r es t lower mid ≡ [])
-    → TimelineAgrees r es t (before ++ Open (gap_at lower upper g) ∷ behind) → TimelineAgrees r es t (before ++ gap_if more (gap_at lower mid g) ++ map Held sent ++ behind)
+pub timeline_page : {E K : Type 0} (r : Room E K) (es : List E) (t lower upper g mid : ℕ) (more : Bool)
+    (sent : List E) (before behind : List (Entry E)) → IsRoom r es
+    → lower ≤ mid → mid ≤ upper → map r.at sent ≡ pictured r es t mid upper → Ascends r.at mid sent → AllByRecursion (λ e. r.at e ≤ upper) sent
+    → (more ≡ false → pictured r es t lower mid ≡ [])
+    → TimelineAgrees r es t (before ++ Open (gap_at lower upper g) ∷ behind)
+    → TimelineAgrees r es t (before ++ gap_if more (gap_at lower mid g) ++ map Held sent ++ behind)
 timeline_page {E = E} r es t lower upper g mid more sent before behind is low high sends up upto none agrees =
     let p : ℕ → ℕ → List ℕ = pictured r es t in
     let gap : List (Entry E) = gap_if more (gap_at lower mid g) in

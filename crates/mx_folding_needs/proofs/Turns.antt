@@ -16,13 +16,32 @@ abbrev all_sent : Room Item Bool
 all_sent = room_of (λ p. true) (λ p. true)
 
 is_story : (a : Asked) (k : Tokens ℕ) (rest : Rest ℕ ℕ ℕ) → RestIf a k (joined_in (story 1 all_sent rest)) rest → StoryIf a k (story 1 all_sent rest)
-is_story a k rest h = record { order = in_order a all_sent; keys = by_key a all_sent (λ e. key_by (λ p. true) e.place); redaction = reds a all_sent (key_by (λ p. true)) (λ p. false); joined = joins a 1 all_sent rest (λ e. true); rest = h }
+is_story a k rest h =
+    record {
+      order = in_order a all_sent;
+      keys = by_key a all_sent (λ e. key_by (λ p. true) e.place);
+      redaction = reds a all_sent
+          (key_by (λ p. true)) (λ p. false);
+      joined = joins a 1 all_sent rest (λ e. true);
+      rest = h;
+    }
 
 -- positions fall
 pub needs_ascends : FailsWith (record all_asked { ascends = false })
 needs_ascends law =
     let r : Room Item Bool = record all_sent { at = λ e. 4 - e.place; names = λ e. None } in
-    let h = law tokens tokens_rise (λ x. story 3 r rest_of) (λ x. record { order = record { ascends = tt; earlier = (λ p h. absurd cc, (λ p h. absurd cc, (λ p h. absurd cc, tt))) }; keys = by_key _ r (λ e. key_by (λ p. true) e.place); redaction = record { red_at = λ e. refl; red_key = λ e. refl; red_names = λ e. refl; red_sender = λ e. refl; red_red = λ e. refl }; joined = joins _ 3 r _ (λ e. true); rest = rests _ _ _ }) (synced 10 1 ∷ synced 10 3 ∷ []) (tt, (refl, tt)) tt in
+    let h =
+    law tokens tokens_rise (λ x. story 3 r rest_of)
+    (λ x. record {
+      order = record { ascends = tt; earlier = (λ p h. absurd cc, (λ p h. absurd cc, (λ p h. absurd cc, tt))) };
+      keys = by_key _ r
+          (λ e. key_by (λ p. true) e.place);
+      redaction = record { red_at = λ e. refl; red_key = λ e. refl; red_names = λ e. refl; red_sender = λ e. refl; red_red = λ e. refl };
+      joined = joins _ 3 r _
+          (λ e. true);
+      rest = rests _ _ _;
+    })
+    (synced 10 1 ∷ synced 10 3 ∷ []) (tt, (refl, tt)) tt in
     let other = (held_room tokens (story 3 r rest_of) _ _ _ _ _ _ h).timeline.whole in
     absurd cc
 
@@ -50,8 +69,25 @@ pub needs_past : FailsWith (record all_asked { past = false })
 needs_past law =
     let r : Room Item Bool = record all_sent { sends = λ front e. nat_le 1 front } in
     let j = joins all_asked 1 r rest_of (λ e. true) in
-    let h = law tokens tokens_rise (λ x. story 1 r rest_of) (λ x. record { order = in_order _ r; keys = by_key _ r (λ e. key_by (λ p. true) e.place); redaction = reds _ r (key_by (λ p. true)) (λ p. false); joined = record { stayed_less = j.stayed_less; stays = λ s h t i. AllByRecursion-every _ (λ e. le-leb 1 t (omega (arith, i, after_join r s h)) ∙ sym (le-leb 1 s (after_join r s h))) _; kinds = j.kinds; stayed = j.stayed }; rest = rests _ _ _ })
-    (synced 1 2 ∷ Paged 10 0 (λ x. Some (record { before = []; gap = gap_at 0 1 2; behind = Held (at 2) ∷ [] })) ∷ []) (tt, ((tt, λ x. (_, _, refl, refl)), tt)) tt in
+    let h =
+    law tokens tokens_rise (λ x. story 1 r rest_of)
+    (λ x. record {
+      order = in_order _ r;
+      keys = by_key _ r (λ e. key_by (λ p. true) e.place);
+      redaction = reds _ r (key_by (λ p. true))
+          (λ p. false);
+      joined = record {
+        stayed_less = j.stayed_less;
+        stays = λ s h t i. AllByRecursion-every _
+            (λ e. le-leb 1 t (omega (arith, i, after_join r s h))
+            ∙ sym (le-leb 1 s (after_join r s h))) _;
+        kinds = j.kinds;
+        stayed = j.stayed;
+      };
+      rest = rests _ _ _;
+    })
+    (synced 1 2 ∷ Paged 10 0 (λ x. Some (record { before = []; gap = gap_at 0 1 2; behind = Held (at 2) ∷ [] })) ∷ [])
+    (tt, ((tt, λ x. (_, _, refl, refl)), tt)) tt in
     let other = (held_room tokens (story 1 r rest_of) _ _ _ _ _ _ h).timeline.whole in
     absurd cc
 
@@ -68,7 +104,17 @@ pub needs_stays : FailsWith (record all_asked { stays = false })
 needs_stays law =
     let r : Room Item Bool = record all_sent { sends = λ front e. nat_le front 1 } in
     let j = joins (record all_asked { stays = false }) 1 r rest_of (λ e. true) in
-    let h = law tokens tokens_rise (λ x. story 1 r rest_of) (λ x. record { order = in_order _ r; keys = by_key _ r (λ e. key_by (λ p. true) e.place); redaction = reds _ r (key_by (λ p. true)) (λ p. false); joined = record { stayed_less = j.stayed_less; stays = tt; kinds = j.kinds; stayed = j.stayed }; rest = rests _ _ _ }) (synced 10 1 ∷ synced 10 2 ∷ []) (tt, (refl, tt)) tt in
+    let h =
+    law tokens tokens_rise (λ x. story 1 r rest_of)
+    (λ x. record {
+      order = in_order _ r;
+      keys = by_key _ r (λ e. key_by (λ p. true) e.place);
+      redaction = reds _ r (key_by (λ p. true))
+          (λ p. false);
+      joined = record { stayed_less = j.stayed_less; stays = tt; kinds = j.kinds; stayed = j.stayed };
+      rest = rests _ _ _;
+    })
+    (synced 10 1 ∷ synced 10 2 ∷ []) (tt, (refl, tt)) tt in
     let other = (held_room tokens (story 1 r rest_of) _ _ _ _ _ _ h).timeline.whole in
     absurd cc
 
@@ -76,7 +122,24 @@ needs_stays law =
 pub needs_kinds : FailsWith (record all_asked { kinds = false })
 needs_kinds law =
     let g : Story Item Bool ℕ ℕ ℕ = record (story 1 all_sent rest_of) { is_own = λ e. true; membership = λ e. cond (e.place == 1) (Some Join) None } in
-    let h = law tokens tokens_rise (λ x. g) (λ x. record { order = in_order _ all_sent; keys = by_key _ all_sent (λ e. key_by (λ p. true) e.place); redaction = reds _ all_sent (key_by (λ p. true)) (λ p. false); joined = record { stayed_less = λ b s t h i e. e; stays = λ s h t i. AllByRecursion-every _ (λ e. refl) _; kinds = tt; stayed = λ b s h e. absurd (false≢true e) }; rest = rests _ _ _ }) (synced 10 1 ∷ synced 10 2 ∷ []) (tt, (refl, tt)) tt in
+    let h =
+    law tokens tokens_rise (λ x. g)
+    (λ x. record {
+      order = in_order _ all_sent;
+      keys = by_key _ all_sent (λ e. key_by (λ p. true) e.place);
+      redaction = reds _ all_sent
+          (key_by (λ p. true))
+          (λ p. false);
+      joined = record {
+        stayed_less = λ b s t h i e. e;
+        stays = λ s h t i. AllByRecursion-every _
+            (λ e. refl) _;
+        kinds = tt;
+        stayed = λ b s h e. absurd (false≢true e);
+      };
+      rest = rests _ _ _;
+    })
+    (synced 10 1 ∷ synced 10 2 ∷ []) (tt, (refl, tt)) tt in
     let held = h.0 in
     absurd cc
 
@@ -84,7 +147,9 @@ needs_kinds law =
 pub needs_folds : FailsWith (record all_asked { folds = false })
 needs_folds law =
     let rest : Rest ℕ ℕ ℕ = record rest_of { view = λ t. t; differs = λ i j. true } in
-    let h = law tokens tokens_rise (λ x. story 1 all_sent rest) (λ x. is_story _ _ _ (record { folds = tt; still = λ i j h p q e. absurd (true≢false e) })) (synced 10 3 ∷ synced 10 4 ∷ []) (tt, (refl, tt)) tt in
+    let h =
+    law tokens tokens_rise (λ x. story 1 all_sent rest) (λ x. is_story _ _ _ (record { folds = tt; still = λ i j h p q e. absurd (true≢false e) }))
+    (synced 10 3 ∷ synced 10 4 ∷ []) (tt, (refl, tt)) tt in
     let view = ap (view_or 0) h.2 ∙ h.4 in
     absurd cc
 
@@ -92,6 +157,8 @@ needs_folds law =
 pub needs_still : FailsWith (record all_asked { still = false })
 needs_still law =
     let rest : Rest ℕ ℕ ℕ = record { view = λ t. t; delta = λ i j. j; changed = λ v d. d; differs = λ i j. false } in
-    let h = law tokens tokens_rise (λ x. story 1 all_sent rest) (λ x. is_story _ _ _ (record { folds = λ i j h p q. refl; still = tt })) (synced 10 3 ∷ synced 10 4 ∷ []) (tt, (refl, tt)) tt in
+    let h =
+    law tokens tokens_rise (λ x. story 1 all_sent rest) (λ x. is_story _ _ _ (record { folds = λ i j h p q. refl; still = tt }))
+    (synced 10 3 ∷ synced 10 4 ∷ []) (tt, (refl, tt)) tt in
     let view = ap (view_or 0) h.2 ∙ h.4 in
     absurd cc

@@ -1,4 +1,6 @@
+pub mod FiveParts
 pub mod Objects
 pub mod Putting
 pub mod ReadBack
 pub mod Readings
+pub mod WriteBack

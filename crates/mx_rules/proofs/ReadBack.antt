@@ -1,5 +1,5 @@
--- What is written of rules is read as the same rules, and what is read is what is written of it.
-use Rattle.std.proofs.Common.{ℕ, ◌≡◌, Bool, true, List, [], ◌∷◌, map, Option, Some, None, option_map, option_and_then, codes, if◌then◌else◌, refl, ap, ◌∙◌}
+-- What is written of rules is read as the same rules.
+use Rattle.std.proofs.Common.{ℕ, ◌≡◌, Bool, true, List, [], ◌∷◌, map, Option, Some, None, option_and_then, codes, if◌then◌else◌, refl, ap, ◌∙◌}
 use Rattle.mx_json.specs.Fields.{bool_in, bool_of, is_object_in, list_in, list_of, members_in, text_in, text_of}
 use Rattle.mx_json.specs.declared.members.Member.{Member}
 use Rattle.mx_json.specs.declared.value.Json.{Json}
@@ -14,6 +14,7 @@ use Rattle.mx_rules.specs.Laws.{ContentReadsBack}
 use Rattle.mx_rules.specs.Reading.{Lists, kinds_by, lists_by, lists_in, rules_by, whole, are_new, asks_conditions, asks_nothing, asks_pattern, each, entries_in, entry_in, object_of, once, rule_from}
 use Rattle.mx_rules.specs.Writing.{content_of, kinds_json, entry_json, member, plain_members, with_conditions, with_nothing, with_pattern}
 use Rattle.mx_rules.specs.declared.rule.Rule.{Rule}
+use Rattle.mx_rules.proofs.FiveParts.{all_there}
 
 -- Values of the variants are seen as such.
 
@@ -26,32 +27,23 @@ text_back t = ap text_in (outs-Text t)
 bool_back : (b : Bool) → bool_of (json.Bool b) ≡ Some b
 bool_back b = ap bool_in (outs-Bool b)
 
-abbrev object_in : Json-F Json → Option (List (Member Json))
+abbrev pub object_in : Json-F Json → Option (List (Member Json))
 object_in y = if is_object_in y then Some (members_in y) else None
 
 object_back : (ms : List (Member Json)) → object_of (json.Object ms) ≡ Some ms
 object_back ms = ap object_in (outs-Object ms)
 
-module _ {T : Type 0} where
-  -- the parts of a rule, as they are looked up one after the other
-  abbrev chain : Option (List Json) → Option Bool → Option Bool → Option (List ℕ) → Option T → Option (List ℕ × Rule T)
-  chain o p q r s = option_and_then (λ js. option_and_then (λ d. option_and_then (λ e. option_and_then (λ i. option_map (rule_from js d e i) s) r) q) p) o
-
-  all_there : (e : List ℕ × Rule T) (o : Option (List Json)) (p q : Option Bool) (r : Option (List ℕ)) (s : Option T)
-      → o ≡ Some e.1.actions → p ≡ Some e.1.default → q ≡ Some e.1.enabled → r ≡ Some e.0 → s ≡ Some e.1.test → chain o p q r s ≡ Some e
-  all_there e o p q r s a d n i t = rw (a, d, n, i, t) refl
-
 conditions_back : (e : List ℕ × Rule (List Json)) → entry_in asks_conditions (entry_json with_conditions e) ≡ Some e
 conditions_back e = ap (option_and_then asks_conditions) (object_back (with_conditions e.1.test (plain_members e.0 e.1)))
-    ∙ all_there e _ _ _ _ _ (list_back e.1.actions) (bool_back e.1.default) (bool_back e.1.enabled) (text_back e.0) (list_back e.1.test)
+    ∙ all_there rule_from e.1.actions e.1.default e.1.enabled e.0 e.1.test _ _ _ _ _ (list_back e.1.actions) (bool_back e.1.default) (bool_back e.1.enabled) (text_back e.0) (list_back e.1.test)
 
 pattern_back : (e : List ℕ × Rule (List ℕ)) → entry_in asks_pattern (entry_json with_pattern e) ≡ Some e
 pattern_back e = ap (option_and_then asks_pattern) (object_back (with_pattern e.1.test (plain_members e.0 e.1)))
-    ∙ all_there e _ _ _ _ _ (list_back e.1.actions) (bool_back e.1.default) (bool_back e.1.enabled) (text_back e.0) (text_back e.1.test)
+    ∙ all_there rule_from e.1.actions e.1.default e.1.enabled e.0 e.1.test _ _ _ _ _ (list_back e.1.actions) (bool_back e.1.default) (bool_back e.1.enabled) (text_back e.0) (text_back e.1.test)
 
 nothing_back : (e : List ℕ × Rule (Unit {0})) → entry_in asks_nothing (entry_json with_nothing e) ≡ Some e
 nothing_back e = ap (option_and_then asks_nothing) (object_back (plain_members e.0 e.1))
-    ∙ all_there e _ _ _ _ _ (list_back e.1.actions) (bool_back e.1.default) (bool_back e.1.enabled) (text_back e.0) refl
+    ∙ all_there rule_from e.1.actions e.1.default e.1.enabled e.0 e.1.test _ _ _ _ _ (list_back e.1.actions) (bool_back e.1.default) (bool_back e.1.enabled) (text_back e.0) refl
 
 module _ {T : Type 0} (asks : List (Member Json) → Option (List ℕ × Rule T)) (write : List ℕ × Rule T → Json) (back : (e : List ℕ × Rule T) → entry_in asks (write e) ≡ Some e) where
   each_back : (es : Entries T) → each (entry_in asks) (map write es) ≡ Some es
@@ -71,24 +63,22 @@ written rs = record {
   underride = map (entry_json with_conditions) rs.underride;
 }
 
-all_listed : (l : Lists) (o p q r s : Option (List Json)) → o ≡ Some l.content → p ≡ Some l.override_rules → q ≡ Some l.room → r ≡ Some l.sender → s ≡ Some l.underride
-    → option_and_then (λ c. option_and_then (λ v. option_and_then (λ m. option_and_then (λ n. option_map (λ u. let l : Lists = record { content = c; override_rules = v; room = m; sender = n; underride = u } in l) s) r) q) p) o ≡ Some l
-all_listed l o p q r s a b c d e = rw (a, b, c, d, e) refl
+abbrev pub lists_from : (content override_rules room sender underride : List Json) → Lists
+lists_from c o r s u = record { content = c; override_rules = o; room = r; sender = s; underride = u }
 
 lists_back : (rs : Rules) → lists_in (content_of rs) ≡ Some (written rs)
 lists_back rs =
     ap (option_and_then kinds_by) (object_back (member (codes "global") (kinds_json rs) ∷ []))
     ∙ ap (option_and_then lists_by) (object_back _)
-    ∙ all_listed (written rs) _ _ _ _ _ (list_back (written rs).content) (list_back (written rs).override_rules) (list_back (written rs).room) (list_back (written rs).sender) (list_back (written rs).underride)
+    ∙ all_there lists_from _ _ _ _ _ _ _ _ _ _ (list_back (written rs).content) (list_back (written rs).override_rules) (list_back (written rs).room) (list_back (written rs).sender) (list_back (written rs).underride)
 
-all_whole : (rs : Rules) (o : Option (Entries (List Json))) (c : Option (Entries (List ℕ))) (r s : Option (Entries (Unit {0}))) (u : Option (Entries (List Json)))
-    → o ≡ Some rs.override_rules → c ≡ Some rs.content → r ≡ Some rs.room → s ≡ Some rs.sender → u ≡ Some rs.underride → whole o c r s u ≡ Some rs
-all_whole rs o c r s u a b d e f = rw (a, b, d, e, f) refl
+abbrev pub rules_from : Entries (List Json) → Entries (List ℕ) → Entries (Unit {0}) → Entries (Unit {0}) → Entries (List Json) → Rules
+rules_from o c r s u = record { override_rules = o; content = c; room = r; sender = s; underride = u }
 
 pub content_reads_back : ContentReadsBack
 content_reads_back rs own =
     ap (option_and_then rules_by) (lists_back rs)
-    ∙ all_whole rs _ _ _ _ _
+    ∙ all_there rules_from rs.override_rules rs.content rs.room rs.sender rs.underride _ _ _ _ _
     (entries_back asks_conditions (entry_json with_conditions) conditions_back rs.override_rules own.override_rules)
     (entries_back asks_pattern (entry_json with_pattern) pattern_back rs.content own.content)
     (entries_back asks_nothing (entry_json with_nothing) nothing_back rs.room own.room)

@@ -15,7 +15,7 @@ mod rule_set;
 mod writing;
 
 pub use fault::{RuleFault, Side};
-pub use laws::content_reads_back;
+pub use laws::{content_is_written, content_reads_back};
 pub use predefined::defaults;
 pub use rule::{Kind, Rule, Test};
 pub use rule_set::RuleSet;

@@ -4,4 +4,4 @@
 
 mod state;
 
-pub use state::{difference, state_at, state_event};
+pub use state::{difference, is_standing, state_at, state_event};

@@ -99,8 +99,9 @@ fn keep<'a>(
     Ok(())
 }
 
-/// Whether a state event of a room is the last of its key up to a position.
-fn is_standing(events: &Events, room: &RoomId, event: &Event, to: u64) -> bool
+/// Whether an event of a room is in its state at a position: a state event that is the last of its key up to it. Takes no
+/// memory, and the time of a search among the versions of the key.
+pub fn is_standing(events: &Events, room: &RoomId, event: &Event, to: u64) -> bool
     ensures { result ≡ stands (of_room room.now events.now) to event.now }
 {
     match &event.state_key {

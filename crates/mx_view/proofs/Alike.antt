@@ -27,18 +27,22 @@ any_alike p q [] h = refl
 any_alike p q (x ∷ xs) h = ap₂ (λ a b. a || b) h.0 (any_alike p q xs h.1)
 
 -- what is read of the last one that passes
-map_alike : {E A : Type 0} (g k : E → A) (test : E → Bool) (xs : List E) → AllByRecursion (λ e. g e ≡ k e) xs → option_map g (last_of test xs) ≡ option_map k (last_of test xs)
+map_alike : {E A : Type 0} (g k : E → A) (test : E → Bool) (xs : List E) → AllByRecursion (λ e. g e ≡ k e) xs
+    → option_map g (last_of test xs) ≡ option_map k (last_of test xs)
 map_alike g k test [] h = refl
 map_alike {E = E} {A = A} g k test (x ∷ xs) h = by (last_of test xs) (test x) (map_alike g k test xs h.1) where
-  by : (o : Option E) (b : Bool) → option_map g o ≡ option_map k o → option_map g (option_or o (cond b (Some x) None)) ≡ option_map k (option_or o (cond b (Some x) None))
+  by : (o : Option E) (b : Bool) → option_map g o ≡ option_map k o → option_map g (option_or o (cond b (Some x) None))
+      ≡ option_map k (option_or o (cond b (Some x) None))
   by (Some y) b same = same
   by None true same = ap Some h.0
   by None false same = refl
 
-then_alike : {E A : Type 0} (g k : E → Option A) (test : E → Bool) (xs : List E) → AllByRecursion (λ e. g e ≡ k e) xs → option_and_then g (last_of test xs) ≡ option_and_then k (last_of test xs)
+then_alike : {E A : Type 0} (g k : E → Option A) (test : E → Bool) (xs : List E) → AllByRecursion (λ e. g e ≡ k e) xs
+    → option_and_then g (last_of test xs) ≡ option_and_then k (last_of test xs)
 then_alike g k test [] h = refl
 then_alike {E = E} {A = A} g k test (x ∷ xs) h = by (last_of test xs) (test x) (then_alike g k test xs h.1) where
-  by : (o : Option E) (b : Bool) → option_and_then g o ≡ option_and_then k o → option_and_then g (option_or o (cond b (Some x) None)) ≡ option_and_then k (option_or o (cond b (Some x) None))
+  by : (o : Option E) (b : Bool) → option_and_then g o ≡ option_and_then k o → option_and_then g (option_or o (cond b (Some x) None))
+      ≡ option_and_then k (option_or o (cond b (Some x) None))
   by (Some y) b same = same
   by None true same = h.0
   by None false same = refl
@@ -65,23 +69,28 @@ module _ (c d : Contents) (es : List Event) (alike : AllByRecursion (ReadAlike c
       AllByRecursion-filter (λ e. c.names e ≡ d.names e) (λ (e : Event). nat_lt low e.id.at && nat_le e.id.at high) es
       (AllByRecursion-weaker (ReadAlike c d) (λ e. c.names e ≡ d.names e) (λ e h. h.names) es alike)
 
-  joined_alike : (p : ℕ) → option_and_then c.membership (last_of (is_own user) (between position_of 0 p es)) ≡ option_and_then d.membership (last_of (is_own user) (between position_of 0 p es))
+  joined_alike : (p : ℕ) → option_and_then c.membership (last_of (is_own user) (between position_of 0 p es))
+      ≡ option_and_then d.membership (last_of (is_own user) (between position_of 0 p es))
   joined_alike p = then_alike c.membership d.membership (is_own user) (between position_of 0 p es) (members 0 p)
 
-  set_alike : (p : ℕ) → option_map c.setting (last_of is_setting (between position_of 0 p es)) ≡ option_map d.setting (last_of is_setting (between position_of 0 p es))
+  set_alike : (p : ℕ) → option_map c.setting (last_of is_setting (between position_of 0 p es))
+      ≡ option_map d.setting (last_of is_setting (between position_of 0 p es))
   set_alike p = map_alike c.setting d.setting is_setting (between position_of 0 p es) (settings 0 p)
 
-  later_alike : (low high : ℕ) → list_any (λ e. is_own user e && is_join (c.membership e)) (between position_of low high es) ≡ list_any (λ e. is_own user e && is_join (d.membership e)) (between position_of low high es)
+  later_alike : (low high : ℕ) → list_any (λ e. is_own user e && is_join (c.membership e)) (between position_of low high es)
+      ≡ list_any (λ e. is_own user e && is_join (d.membership e)) (between position_of low high es)
   later_alike low high =
       any_alike (λ e. is_own user e && is_join (c.membership e)) (λ e. is_own user e && is_join (d.membership e)) (between position_of low high es)
-      (AllByRecursion-weaker (λ e. c.membership e ≡ d.membership e) (λ e. (is_own user e && is_join (c.membership e)) ≡ (is_own user e && is_join (d.membership e)))
+      (AllByRecursion-weaker (λ e. c.membership e ≡ d.membership e) (λ e. (is_own user e && is_join (c.membership e))
+      ≡ (is_own user e && is_join (d.membership e)))
       (λ e h. ap (λ m. is_own user e && is_join m) h) (between position_of low high es) (members low high))
 
   stays_alike : (low high : ℕ) → stayed_joined v es low high ≡ stayed_joined w es low high
   stays_alike low high =
       ap₂ (λ a b. is_join a && not b) (joined_alike low)
       (any_alike (λ e. is_own user e && not (is_join (c.membership e))) (λ e. is_own user e && not (is_join (d.membership e))) (between position_of low high es)
-      (AllByRecursion-weaker (λ e. c.membership e ≡ d.membership e) (λ e. (is_own user e && not (is_join (c.membership e))) ≡ (is_own user e && not (is_join (d.membership e))))
+      (AllByRecursion-weaker (λ e. c.membership e ≡ d.membership e) (λ e. (is_own user e && not (is_join (c.membership e)))
+      ≡ (is_own user e && not (is_join (d.membership e))))
       (λ e h. ap (λ m. is_own user e && not (is_join m)) h) (between position_of low high es) (members low high)))
 
   seen_alike : (front : ℕ) (e : Event) → is_visible v es front e ≡ is_visible w es front e
@@ -135,7 +144,8 @@ module _ (c d : Contents) (es : List Event) (alike : AllByRecursion (ReadAlike c
     by_alike None leave anew more e (Some Ban) = refl
     by_alike (Some i) leave anew more e (Some Ban) = refl
 
-    of_alike : (since : Option SyncToken) (leave : Bool) (anew more : Part Event) (own : Option Event) → ((e : Event) → ◌≡◌ {A = Option Event} own (Some e) → c.membership e ≡ d.membership e)
+    of_alike : (since : Option SyncToken) (leave : Bool) (anew more : Part Event) (own : Option Event)
+        → ((e : Event) → ◌≡◌ {A = Option Event} own (Some e) → c.membership e ≡ d.membership e)
         → told_of tokens g since j leave anew more own ≡ told_of tokens k since j leave anew more own
     of_alike since leave anew more None h = refl
     of_alike since leave anew more (Some e) h = by_alike since leave anew more e (c.membership e) ∙ ap (told_by tokens k since j leave anew more e) (h e refl)
@@ -147,14 +157,16 @@ module _ (c d : Contents) (es : List Event) (alike : AllByRecursion (ReadAlike c
         let from : ℕ = cond ask.full 0 s in
         let anew = part_alike ask.after ask.limit 0 (picks_new k.room heroes) (omega arith) in
         let pick_by : Bool → List Event → Event → Bool = λ stayed sent e.
-        nat_lt from e.id.at || (f.lazy && (key_is k.room.member (k.room.key e) && ((key_is (is_sender k.room sent) (k.room.key e) || key_is heroes (k.room.key e))
+        nat_lt from e.id.at || (f.lazy
+        && (key_is k.room.member (k.room.key e) && ((key_is (is_sender k.room sent) (k.room.key e) || key_is heroes (k.room.key e))
         && not (not ask.redundant && (nat_le e.id.at s && (stayed && nat_lt b e.id.at)))))) in
         let more = part_alike ask.after ask.limit s (pick_by (g.room.stayed b s)) up
         ∙ ap (λ t. part_of k.room es j.e (window ask.after ask.limit s j.e) (pick_by t)) (stays_alike b s) in
         let own = own_at k j.e in
         ap (λ t. cond picked t Nothing)
         (ap₂ (λ x y. told_of tokens g since j ask.leave x y own) anew more
-        ∙ of_alike since ask.leave (part_of k.room es j.e (window ask.after ask.limit 0 j.e) (picks_new k.room heroes)) (part_of k.room es j.e (window ask.after ask.limit s j.e) (picks k.room ask.redundant b s from heroes)) own
+        ∙ of_alike since ask.leave (part_of k.room es j.e (window ask.after ask.limit 0 j.e) (picks_new k.room heroes))
+        (part_of k.room es j.e (window ask.after ask.limit s j.e) (picks k.room ask.redundant b s from heroes)) own
         (λ e is. (last_of-some (λ (x : Event). c.membership x ≡ d.membership x) (is_own user) (between position_of 0 j.e es) e (members 0 j.e) is).1))
 
 next_up : (since : Option SyncToken) (j : SyncToken) → IsNext tokens since j → position tokens since ≤ j.e
@@ -162,4 +174,5 @@ next_up None j next = omega arith
 next_up (Some i) j next = are_tokens.rises i j next
 
 pub same_read : {V D : Type 0} → SameRead V D
-same_read c d same es alike f picked user rest ask heroes b since j next = told_alike c d es alike user same f picked rest j ask heroes b since (next_up since j next)
+same_read c d same es alike f picked user rest ask heroes b since j next =
+    told_alike c d es alike user same f picked rest j ask heroes b since (next_up since j next)

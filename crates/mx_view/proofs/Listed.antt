@@ -20,20 +20,25 @@ use Rattle.mx_event.specs.Valid.{are_valid}
 use Rattle.mx_view.proofs.Names.{target_below}
 
 -- each redaction of a valid list names an earlier event
-pub all_earlier : (low : ℕ) (before es : List Event) → AllByRecursion (λ (v : Event). v.id.at ≤ low) before → Ascends position_of low es → are_valid before es ≡ true
+pub all_earlier : (low : ℕ) (before es : List Event) → AllByRecursion (λ (v : Event). v.id.at ≤ low) before
+    → Ascends position_of low es → are_valid before es ≡ true
     → AllByRecursion (λ (e : Event). (p : ℕ) → named_at e ≡ Some p → p < e.id.at) es
 all_earlier low before [] upto up valid = tt
 all_earlier low before (e ∷ es) upto up valid =
     let parts = and_parts (is_none (denied e before) && has_target e before) (are_valid (before ++ e ∷ []) es) valid in
     let own = and_parts (is_none (denied e before)) (has_target e before) parts.0 in
     let above : low < e.id.at = up.0 in (
-      λ p is. target_below e e.id.at p before (AllByRecursion-weaker (λ (v : Event). v.id.at ≤ low) (λ (v : Event). v.id.at < e.id.at) (λ v h. omega (arith, h, above)) before upto) own.1 is,
+      λ p is. target_below e e.id.at p before
+          (AllByRecursion-weaker (λ (v : Event). v.id.at ≤ low) (λ (v : Event). v.id.at < e.id.at) (λ v h. omega (arith, h, above)) before upto) own.1 is,
       all_earlier e.id.at (before ++ e ∷ []) es
-          (AllByRecursion-append (λ (v : Event). v.id.at ≤ e.id.at) before (e ∷ []) (AllByRecursion-weaker (λ (v : Event). v.id.at ≤ low) (λ (v : Event). v.id.at ≤ e.id.at) (λ v h. omega (arith, h, above)) before upto) (omega arith, tt))
+          (AllByRecursion-append (λ (v : Event). v.id.at ≤ e.id.at) before (e ∷ [])
+          (AllByRecursion-weaker (λ (v : Event). v.id.at ≤ low) (λ (v : Event). v.id.at ≤ e.id.at) (λ v h. omega (arith, h, above)) before upto)
+          (omega arith, tt))
           up.1 parts.1,
     )
 
-four : (o : Option (List ℕ)) → (is_text (codes "join") o || (is_text (codes "invite") o || (is_text (codes "leave") o || is_text (codes "ban") o))) ≡ true → is_some (option_and_then membership_as o) ≡ true
+four : (o : Option (List ℕ)) → (is_text (codes "join") o || (is_text (codes "invite") o || (is_text (codes "leave") o || is_text (codes "ban") o)))
+    ≡ true → is_some (option_and_then membership_as o) ≡ true
 four None any = absurd cc
 four (Some text) any = elim (cases_Bool (bytes_eq text (codes "join"))) [
   | inl a ↦ rw a refl
@@ -59,7 +64,8 @@ member_kind e before own none =
     let kind : e.kind ≡ member_type = (bytes_eq-Decides e.kind member_type).0 own in
     let other : is_of create_type e ≡ false = ap (λ k. bytes_eq k create_type) kind in
     let rules : rules_for e before ≡ (2, breaks_member_form e before) ∷ membership_rule e before ∷ [] =
-    cond-false (is_of create_type e) [] (cond (is_of member_type e) ((2, breaks_member_form e before) ∷ membership_rule e before ∷ []) (general_rules e before)) other
+    cond-false (is_of create_type e) []
+    (cond (is_of member_type e) ((2, breaks_member_form e before) ∷ membership_rule e before ∷ []) (general_rules e before)) other
     ∙ cond-true (is_of member_type e) ((2, breaks_member_form e before) ∷ membership_rule e before ∷ []) (general_rules e before) own in
     let second = (no_first 1 (breaks_create e before) (rules_for e before) none).1 in
     let form = (no_first 2 (breaks_member_form e before) (membership_rule e before ∷ []) (ap (λ l. is_none (first_broken l)) (sym rules) ∙ second)).0 in
@@ -70,7 +76,8 @@ member_kind e before own none =
       one_of false false h = absurd cc
 
 -- each member event of a user in a valid list has one of the four memberships
-pub all_kinds : (user : List ℕ) (before es : List Event) → are_valid before es ≡ true → AllByRecursion (λ e. is_own user e ≡ true → is_some (membership_of e) ≡ true) es
+pub all_kinds : (user : List ℕ) (before es : List Event) → are_valid before es ≡ true
+    → AllByRecursion (λ e. is_own user e ≡ true → is_some (membership_of e) ≡ true) es
 all_kinds user before [] valid = tt
 all_kinds user before (e ∷ es) valid =
     let parts = and_parts (is_none (denied e before) && has_target e before) (are_valid (before ++ e ∷ []) es) valid in

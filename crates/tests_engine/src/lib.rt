@@ -3,3 +3,5 @@
 
 #[cfg(test)]
 mod rooms;
+#[cfg(test)]
+mod writers;

@@ -4,6 +4,8 @@
 #[cfg(test)]
 mod make;
 #[cfg(test)]
+mod members;
+#[cfg(test)]
 mod others;
 #[cfg(test)]
 mod reads;

@@ -1,0 +1,6 @@
+pub mod InState
+pub mod Heroes
+pub mod SentBy
+pub mod Picking
+pub mod Leaving
+pub mod Still

@@ -1,0 +1,4 @@
+pub mod Members
+pub mod Summaries
+pub mod Stays
+pub mod Picks

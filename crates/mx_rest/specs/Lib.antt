@@ -1,0 +1,4 @@
+pub mod Receipts
+pub mod Accounts
+pub mod Rests
+pub mod Servers

@@ -1,0 +1,8 @@
+//! The rest of a room in replies to a sync (Client-Server API, Syncing): receipts, account data, unread counts, summary.
+#![tactic(auto)]
+
+mod rest;
+mod room_view;
+
+pub use rest::{Change, Rest, change, view};
+pub use room_view::{RoomDelta, RoomView};

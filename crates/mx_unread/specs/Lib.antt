@@ -1,0 +1,5 @@
+pub mod Unread
+pub mod Marks
+pub mod Deciding
+pub mod Tallies
+pub mod Stays

@@ -1,0 +1,14 @@
+//! The numbers of unread events of a room, for a user (Client-Server API, Syncing, Unread notification counts).
+#![tactic(auto)]
+
+mod counting;
+mod decider;
+mod entering;
+mod laws;
+mod marks;
+mod stored_rules;
+mod unread_counts;
+
+pub use counting::counts;
+pub use laws::counts_stay;
+pub use unread_counts::Counts;
