@@ -22,7 +22,7 @@ use Rattle.mx_engine.specs.Asked.{Aimed}
 use Rattle.mx_engine.specs.Decided.{decided_entry, entry_placed}
 use Rattle.mx_engine.specs.EventsDecided.{decided_events, plan_of}
 use Rattle.mx_engine.specs.Plans.{decided_plan}
-use Rattle.mx_engine.specs.Written.{IsWritten, mark_by, said_by}
+use Rattle.mx_engine.specs.Written.{IsWritten, made_after, made_by, mark_by, said_by}
 use Rattle.mx_engine.specs.declared.accounts.Never.{Never}
 use Rattle.mx_engine.specs.declared.aim.Told.{Told}
 use Rattle.mx_engine.specs.declared.answered.Answered.{Answered}
@@ -46,6 +46,13 @@ mark_now k seen now (Ok w) = refl
 mark_now k seen now (Err (Fault f m)) = refl
 mark_now k seen now (Err (Full n m)) = refl
 mark_now k seen now (Err Memory) = refl
+
+-- the count of stores after a write is that of its mark
+pub made_mark : {E : Type 0} (k : ℕ) (seen : Counts) (now n : ℕ) (r : Result Written (Refused E)) → made_by n r ≡ made_after n (mark_by k seen now r).own
+made_mark k seen now n (Ok w) = refl
+made_mark k seen now n (Err (Fault f m)) = refl
+made_mark k seen now n (Err (Full a m)) = refl
+made_mark k seen now n (Err Memory) = refl
 
 -- what is shown is what is covered
 shown_covered : {I : Type 0} (h : List (Stored I)) (parts : Taken I) → Shows h parts → parts.items ≡ covered h
