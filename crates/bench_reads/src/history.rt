@@ -25,7 +25,7 @@ enum Row {
     Message,
 }
 
-fn row(position: u64) -> Row {
+fn row_at(position: u64) -> Row {
     let turn = position / COUNT;
     if turn < COUNT {
         Row::Join(turn)
@@ -98,7 +98,7 @@ fn json(alloc: Global, s: &str) -> Result<Json, Memory> {
 pub fn event(alloc: Global, position: u64) -> Result<Event, Memory>
     ensures { IfOk result (λ e. position_of e ≡ position) }
 {
-    let row = row(position);
+    let row = row_at(position);
     Ok(Event {
         id: EventId { at: position },
         room: room(position),
