@@ -3,3 +3,4 @@ pub mod Places
 pub mod UpTo
 pub mod Quiet
 pub mod Putting
+pub mod Changing

@@ -1,5 +1,5 @@
 -- Lists whose items stand in their places: what came after the first items is a window.
-use Rattle.std.proofs.Common.{◌≡◌, ℕ, ◌≤◌, ◌<◌, Bool, true, false, cond, ◌&&◌, ◌||◌, List, [], ◌∷◌, ◌++◌, length, take, drop, filter, nat_lt, nat_le, refl, ap, sym, ◌∙◌, inl, inr, arith}
+use Rattle.std.proofs.Common.{◌≡◌, ℕ, ◌≤◌, ◌<◌, Bool, true, false, cond, ◌&&◌, ◌||◌, List, [], ◌∷◌, ◌++◌, length, take, drop, filter, nat_lt, nat_le, Option, Some, refl, ap, sym, ◌∙◌, inl, inr, arith}
 use Rattle.std.proofs.Math.Seq.{take-length, drop-append_seam}
 use Rattle.std.proofs.lemmas.Bool.{and_parts}
 use Rattle.std.specs.List.{list_any}
@@ -60,6 +60,12 @@ module _ {E : Type 0} (at : E → ℕ) (xs : List E) (stands : stand_from at 1 x
       let found = after-last at test 0 (length xs) 0 xs ascends (omega arith) last is in
       any_append test (between at last since xs) (between at since (length xs) xs)
       (ap (list_any test) (sym (between-split at last since (length xs) 0 xs ascends up h)) ∙ found.2)
+
+-- the position of the last item that passes, looked up up to the front
+pub found_at : {E : Type 0} (at : E → ℕ) (test : E → Bool) (xs : List E) → stand_from at 1 xs ≡ true → (front : ℕ) → front ≡ length xs
+    → (found : Option E) → found ≡ last_of test (between at 0 front xs) → last_at at 0 found ≡ last_position at test xs
+found_at at test xs stands front is found found_is =
+    ap (last_at at 0) (found_is ∙ ap (λ n. last_of test (between at 0 n xs)) is ∙ ap (last_of test) (whole at xs stands))
 
 -- the receipts of a room after a position
 pub receipts_after : (room : RoomId) (low : ℕ) (rs : List Receipt) → receipt.AreInPlace rs → low ≤ length rs

@@ -1,5 +1,5 @@
 -- When counts and summary are as they were at an earlier token.
-use Rattle.std.proofs.Common.{◌≡◌, ℕ, ◌≤◌, Bool, true, false, cond, not, ◌&&◌, ◌||◌, List, [], ◌∷◌, length, take, filter, Some, None, nat_eq, nat_lt, nat_le, codes, refl, ap, ap₂, sym, ◌∙◌, arith}
+use Rattle.std.proofs.Common.{◌≡◌, ℕ, ◌≤◌, Bool, true, false, cond, not, ◌&&◌, ◌||◌, List, [], ◌∷◌, length, take, filter, Option, Some, None, nat_eq, nat_lt, nat_le, codes, refl, ap, ap₂, sym, subst, ◌∙◌, arith}
 use Rattle.std.proofs.lemmas.Bool.{and_parts, and_from, leb-true}
 use Rattle.std.specs.List.{list_any}
 use Rattle.std.specs.Str.{bytes_eq}
@@ -29,6 +29,7 @@ use Rattle.mx_lazy.specs.Summaries.{same_summary, same_texts, summary_at}
 use Rattle.mx_lazy.specs.declared.room_summary.Summary.{Summary}
 use Rattle.mx_lazy.proofs.Still.{summary_still}
 use Rattle.mx_unread.specs.declared.unread_counts.Counts.{Counts}
+use Rattle.mx_unread.specs.Unread.{counts_at}
 use Rattle.mx_unread.proofs.Staying as unread
 use Rattle.mx_fold.specs.Lists.{Lists, fronts_of, upto}
 use Rattle.mx_rest.specs.Rests.{counts_in, news, same_counts, summary_in, summary_sent}
@@ -42,10 +43,10 @@ or_false false b h = (refl, h)
 
 filter-no : {E : Type 0} (test : E → Bool) (xs : List E) → list_any test xs ≡ false → filter test xs ≡ []
 filter-no test [] h = refl
-filter-no test (x ∷ xs) h = by (test x) h where
-  by : (b : Bool) → (b || list_any test xs) ≡ false → cond b (x ∷ filter test xs) (filter test xs) ≡ []
-  by true k = absurd cc
-  by false k = filter-no test xs k
+filter-no test (x ∷ xs) h = by (test x) h (filter-no test xs) where
+  by : (b : Bool) → (b || list_any test xs) ≡ false → (list_any test xs ≡ false → filter test xs ≡ []) → cond b (x ∷ filter test xs) (filter test xs) ≡ []
+  by true k rest = absurd cc
+  by false k rest = rest k
 
 any_inside : {E : Type 0} (p q : E → Bool) (xs : List E) → list_any q (filter p xs) ≡ list_any (λ x. p x && q x) xs
 any_inside p q [] = refl
@@ -114,6 +115,13 @@ module _ (room : RoomId) (user : List ℕ) (l : Lists) (placed : ArePlaced l) (t
       sym (ap (λ c. not (same_counts (counts_in user room (upto t l)) c)) (counts_kept (ap (is_uncounted room user l t) (sym is) ∙ quiet))
       ∙ ap not (counts_alike (counts_in user room (upto t l))))
 
+  -- counts that were computed at both are compared
+  pub counts_apart : (old now : Counts) → old ≡ counts_at room user l.events l.receipts l.accounts t → now ≡ counts_in user room l
+      → (same : Bool) → same ≡ same_counts old now → not same ≡ not (same_counts (counts_in user room (upto t l)) (counts_in user room l))
+  counts_apart old now old_is now_is same same_is =
+      let reach = before_parts t (fronts_of l) before in
+      ap not (same_is ∙ ap₂ same_counts (old_is ∙ sym (counts_upto room user l placed t reach.0 reach.1 reach.2)) now_is)
+
   -- the summary is as it was
   summary_kept : last_position position_of (snapshot.is_member room) l.events ≤ t.e → summary_in user room l ≡ summary_in user room (upto t l)
   summary_kept up =
@@ -128,8 +136,15 @@ module _ (room : RoomId) (user : List ℕ) (l : Lists) (placed : ArePlaced l) (t
       ∙ sym (summary_upto room user l placed t reach.0 reach.1 reach.2)
 
   -- and isn't sent
-  pub summary_quiet : last_position position_of (snapshot.is_member room) l.events ≤ t.e
+  pub summary_quiet : (last : ℕ) → last ≡ last_position position_of (snapshot.is_member room) l.events → last ≤ t.e
       → None ≡ summary_sent (summary_in user room (upto t l)) (summary_in user room l)
-  summary_quiet up =
-      sym (ap (summary_sent (summary_in user room (upto t l))) (summary_kept up)
+  summary_quiet last is up =
+      sym (ap (summary_sent (summary_in user room (upto t l))) (summary_kept (subst (λ n. n ≤ t.e) is up))
       ∙ ap (λ b. cond b None (Some (summary_in user room (upto t l)))) (summary_alike (summary_in user room (upto t l))))
+
+  -- summaries that were computed at both are compared
+  pub summary_apart : (old now : Summary) → old ≡ summary_at user (events.of_room room l.events) t.e → now ≡ summary_in user room l
+      → (sent : Option Summary) → sent ≡ summary_sent old now → sent ≡ summary_sent (summary_in user room (upto t l)) (summary_in user room l)
+  summary_apart old now old_is now_is sent sent_is =
+      let reach = before_parts t (fronts_of l) before in
+      sent_is ∙ ap₂ summary_sent (old_is ∙ sym (summary_upto room user l placed t reach.0 reach.1 reach.2)) now_is

@@ -22,7 +22,6 @@ use Rattle.mx_window.proofs.Intervals.{between-inner, between-take, between-with
 use Rattle.mx_window.proofs.Lasts.{last_of-same}
 use Rattle.mx_folding.specs.Visible.{allows_after, is_join, is_visible, membership_after}
 use Rattle.mx_view.specs.Readings.{is_own, is_setting, membership_of, viewer_of}
-use Rattle.mx_visible.specs.Walks.{joins}
 use Rattle.mx_rules.specs.Rules.{Rules}
 use Rattle.mx_lazy.specs.Members.{members_of}
 use Rattle.mx_lazy.specs.Summaries.{summary_at, summary_of}
@@ -79,6 +78,10 @@ counts_first says user es front mark =
     (unread says user es front mark) (AllByRecursion-filter (λ (v : Event). v.id.at ≤ front) (is_unread says user es front) vs all)) in
     λ i. record { notifications = length (same i); highlights = length (loud_same i) }
 
+entry_by : (user : List ℕ) (joins : Bool) (xs ys : List Event) → xs ≡ ys
+    → (joins && not (is_join (membership_after (viewer_of user) xs))) ≡ (joins && not (is_join (membership_after (viewer_of user) ys)))
+entry_by user joins xs ys is = ap (λ l. joins && not (is_join (membership_after (viewer_of user) l))) is
+
 entered_first : (user : List ℕ) (es : List Event) (front : ℕ) → entered user front (first front es) ≡ entered user front es
 entered_first user es front =
     let vs = between position_of 0 front es in
@@ -87,7 +90,7 @@ entered_first user es front =
     (last_of-same (enters user (first front es)) (enters user es) vs
     (AllByRecursion-weaker (λ (v : Event). (0 < v.id.at) × (v.id.at ≤ front)) (λ (v : Event). enters user (first front es) v ≡ enters user es v)
     (λ v h. let up : v.id.at ≤ front = h.1 in let past : v.id.at - 1 ≤ front = omega (arith, up) in
-    ap (λ l. joins user v && not (is_join (membership_after (viewer_of user) l))) (window_in 0 (v.id.at - 1) front es past)) vs (between-within position_of 0 front es)))
+    entry_by user _ _ _ (window_in 0 (v.id.at - 1) front es past)) vs (between-within position_of 0 front es)))
 
 -- ---- of the streams
 

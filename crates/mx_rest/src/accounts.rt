@@ -3,7 +3,10 @@
 ghost use Rattle.std.specs.Prelude.{◌≡◌, ◌≤◌, length, map, take, IfOk, OnOk, if◌then◌else◌, None, codes};
 ghost use Rattle.std.specs.BTreeMap.{insert_entry};
 ghost use Rattle.std.specs.Cmp.Lexicographic.{slice_cmp};
+ghost use Rattle.std.specs.Option.{option_copied};
 ghost use Rattle.std.specs.Ordering.{nat_cmp};
+ghost use Rattle.mx_window.specs.Lasts.{last_of};
+ghost use Rattle.mx_window.specs.Windows.{between};
 ghost use Rattle.mx_account.specs.Entries.{content_of, is_data_of, kind_of, pair_now, position_of};
 ghost use Rattle.mx_fold.specs.Latest.{set_item};
 ghost use Rattle.mx_snapshot.specs.Looks.{all_now, last_position};
@@ -113,10 +116,16 @@ pub(crate) fn last_rules(accounts: &Accounts, user: &UserId) -> u64
     ensures { result ≡ last_position position_of (is_data_of user.now None (codes "m.push_rules")) accounts.now }
 {
     let front = accounts.front();
-    match accounts.last_of(user.as_str(), None, PUSH_RULES, front) {
+    match stored_rules(accounts, user, front) {
         Some(entry) => position_of(entry),
         None => 0,
     }
+}
+
+fn stored_rules<'a>(accounts: &'a Accounts, user: &UserId, front: u64) -> Option<&'a Entry>
+    ensures { option_copied result ≡ last_of (is_data_of user.now None (codes "m.push_rules")) (between position_of 0 front accounts.now) }
+{
+    accounts.last_of(user.as_str(), None, PUSH_RULES, front)
 }
 
 fn position_of(entry: &Entry) -> u64

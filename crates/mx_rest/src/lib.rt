@@ -10,5 +10,5 @@ mod room_view;
 mod summaries;
 
 pub use laws::section_law;
-pub use rest::{Change, Rest, change, view};
-pub use room_view::{RoomDelta, RoomView};
+pub use rest::{Rest, change, view};
+pub use room_view::{Change, RoomDelta, RoomView};

@@ -12,7 +12,7 @@ ghost use Rattle.mx_view.specs.Tokens.{is_before};
 use crate::accounts::account_after;
 use crate::counting::{counts_differ, counts_now};
 use crate::receipts::{receipts_after, standing};
-use crate::room_view::{RoomDelta, RoomView};
+use crate::room_view::{Change, RoomDelta, RoomView};
 use crate::summaries::{summary_change, summary_now};
 use mx_filter::{DataPart, Filter};
 use mx_ids::{Memory, RoomId, Seq, SyncToken, Text, UserId};
@@ -30,14 +30,6 @@ pub struct Rest<'a> {
     pub room: &'a RoomId,
     pub user: &'a UserId,
     pub filter: &'a Filter,
-}
-
-/// A change of the rest of a room.
-#[derive(Debug, Drop)]
-pub struct Change {
-    pub delta: RoomDelta,
-    /// There is something to say: a receipt or account data came, or the counts or the summary aren't what they were.
-    pub differs: bool,
 }
 
 /// The rest of a room at the snapshot's fronts. Takes the time of the room's events and receipts, with some look-ups for each
