@@ -1,5 +1,5 @@
 -- Receipts in a reply (Client-Server API, m.receipt): by event, by kind, by user.
-use Rattle.std.specs.Prelude.{ℕ, Bool, List, [], ◌∷◌, ◌++◌, ◌==◌, filter, fold, codes, nat_eq}
+use Rattle.std.specs.Prelude.{ℕ, Bool, List, [], ◌∷◌, ◌++◌, filter, fold, codes, nat_eq}
 use Rattle.std.specs.Ordering.{nat_cmp}
 use Rattle.mx_ids.specs.Ids.{event_id_text}
 use Rattle.mx_json.specs.Keys.{with_member}

@@ -1,8 +1,7 @@
 -- Rooms in the reply to a sync (Client-Server API, Syncing), as a device sees them.
-use Rattle.std.specs.Prelude.{ℕ, false, List, [], ◌∷◌, map, fold, codes, Option, Some, unwrap_or}
+use Rattle.std.specs.Prelude.{ℕ, false, List, [], ◌∷◌, map, codes, Option, Some, unwrap_or}
 use Rattle.mx_ids.specs.Ids.{room_id_text}
 use Rattle.mx_ids.specs.Page.{page_text}
-use Rattle.mx_ids.specs.declared.room_id.RoomId.{RoomId}
 use Rattle.mx_json.specs.Keys.{with_member}
 use Rattle.mx_json.specs.declared.members.Member.{Member}
 use Rattle.mx_json.specs.declared.value.Json.{Json}
@@ -13,8 +12,6 @@ use Rattle.mx_event.specs.declared.event.Shown.{Shown}
 use Rattle.mx_lazy.specs.declared.room_summary.Summary.{Summary}
 use Rattle.mx_parts.specs.declared.part.RoomPart.{RoomPart}
 use Rattle.mx_receipt.specs.declared.receipt.Receipt.{Receipt}
-use Rattle.mx_rest.specs.declared.room_view.RoomDelta.{RoomDelta}
-use Rattle.mx_rest.specs.declared.room_view.RoomView.{RoomView}
 use Rattle.mx_unread.specs.declared.unread_counts.Counts.{Counts}
 use Rattle.mx_sync.specs.declared.sync_reply.InvitedRoom.{InvitedRoom}
 use Rattle.mx_sync.specs.declared.sync_reply.JoinedRoom.{JoinedRoom}
