@@ -11,3 +11,5 @@ mod others;
 mod reads;
 #[cfg(test)]
 mod scans;
+#[cfg(test)]
+mod unread;
