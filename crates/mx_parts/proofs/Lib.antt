@@ -1,0 +1,4 @@
+pub mod Gathered
+pub mod Picked
+pub mod Settled
+pub mod Shown

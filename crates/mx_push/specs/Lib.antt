@@ -1,6 +1,5 @@
 pub mod Conditions
 pub mod Counts
-pub mod Laws
 pub mod Notifies
 pub mod Properties
 pub mod Settings

@@ -4,11 +4,9 @@
 mod conditions;
 mod counts;
 mod decision;
-mod laws;
 mod property;
 mod setting;
 mod words;
 
 pub use decision::{Notify, decide};
-pub use laws::paths_lead_into_form;
 pub use setting::Context;
