@@ -1,7 +1,8 @@
 -- What is gathered in one walk through a window is its section.
-use Rattle.std.proofs.Common.{◌≡◌, ℕ, ◌-◌, ◌<◌, ◌≤◌, Bool, true, false, cond, not, nat_lt, nat_le, ◌&&◌, List, [], ◌∷◌, ◌++◌, map, filter, fold, drop, length, Option, Some, None, is_some, option_map, refl, ap, ap₂, sym, ◌∙◌, inl, inr, arith, append_assoc, append-nil}
+use Rattle.std.proofs.Common.{◌≡◌, ℕ, zero, suc, ◌-◌, ◌<◌, ◌≤◌, Bool, true, false, cond, not, nat_lt, nat_le, ◌&&◌, List, [], ◌∷◌, ◌++◌, map, filter, fold, drop, take, length, Option, Some, None, is_some, option_map, refl, ap, ap₂, sym, ◌∙◌, inl, inr, arith, append_assoc, append-nil}
 use Rattle.std.proofs.lemmas.Bool.{cases_Bool, cases_lt, lt-ltb, le-ltb, le-leb}
-use Rattle.std.proofs.lemmas.List.{length-drop}
+use Rattle.std.proofs.lemmas.List.{length-drop, take_rest}
+use Rattle.std.specs.Borrow.{Bor}
 use Rattle.std.specs.List.{AllByRecursion}
 use Rattle.std.specs.Option.{option_or}
 use Rattle.mx_window.specs.Windows.{Ascends, between}
@@ -17,6 +18,7 @@ use Rattle.mx_folding.specs.Sections.{sendable, break_at, section, is_limited, w
 use Rattle.mx_folding.specs.Visible.{is_visible}
 use Rattle.mx_view.specs.Readings.{viewer_of}
 use Rattle.mx_view.specs.Rooms.{Key, Sieve, room_of}
+use Rattle.mx_snapshot.specs.Looks.{all_now}
 use Rattle.mx_visible.specs.Walks.{sights}
 use Rattle.mx_parts.specs.Gathers.{cuts, gathered, all_sent}
 
@@ -43,9 +45,9 @@ gather_from {E = E} at S B low acc (e ∷ es) up =
     (gather_from at S B (at e) (cond (S e) (acc ++ e ∷ []) (cond (B e) [] acc)) es up.1) where
       step : (s : Bool) → S e ≡ s → (b : Bool) → B e ≡ b → (o : Option E) → ◌≡◌ {A = Option E} (last_of (λ d. B d && not (S d)) es) o
           → fold (λ y d. cond (S d) (y ++ d ∷ []) (cond (B d) [] y)) (cond s (acc ++ e ∷ []) (cond b [] acc)) es
-              ≡ cut_by at S (last_of (λ d. B d && not (S d)) es) (cond s (acc ++ e ∷ []) (cond b [] acc)) es
+          ≡ cut_by at S (last_of (λ d. B d && not (S d)) es) (cond s (acc ++ e ∷ []) (cond b [] acc)) es
           → fold (λ y d. cond (S d) (y ++ d ∷ []) (cond (B d) [] y)) (cond s (acc ++ e ∷ []) (cond b [] acc)) es
-              ≡ cut_by at S (option_or (last_of (λ d. B d && not (S d)) es) (cond (b && not s) (Some e) None)) acc (e ∷ es)
+          ≡ cut_by at S (option_or (last_of (λ d. B d && not (S d)) es) (cond (b && not s) (Some e) None)) acc (e ∷ es)
       step s is_s b is_b (Some f) is_o rest =
           let facts = last_of-some (λ d. at e < at d) (λ d. B d && not (S d)) es f (Ascends-after at (at e) es up.1) is_o in
           let low_e : nat_lt (at f) (at e) ≡ false = le-ltb (at f) (at e) (let h : at e < at f = facts.1 in omega (arith, h)) in
@@ -124,6 +126,21 @@ module _ (f : Sieve) (user : List ℕ) (es : List Event) (front : ℕ) where
       | inl b ↦ rw b (ap (λ l. d ∷ l) (over ds))
       | inr b ↦ rw b (over ds)
     ]
+
+drop_now : (n : ℕ) (xs : List (Bor Event)) → all_now (drop n xs) ≡ drop n (all_now xs)
+drop_now zero xs = refl
+drop_now (suc n) [] = refl
+drop_now (suc n) (x ∷ xs) = drop_now n xs
+
+pub rest_now : (n : ℕ) (xs : List (Bor Event)) → n ≤ length xs → all_now (take (length xs - n) (drop n xs)) ≡ drop n (all_now xs)
+rest_now n xs within = ap all_now (take_rest xs n) ∙ drop_now n xs
+
+length-now : (xs : List (Bor Event)) → length (all_now xs) ≡ length xs
+length-now [] = refl
+length-now (x ∷ xs) = ap suc (length-now xs)
+
+pub within_now : (n : ℕ) (xs : List (Bor Event)) → n ≤ length xs → n ≤ length (all_now xs)
+within_now n xs within = omega (arith, within, length-now xs)
 
 less_by : (n k : ℕ) → k ≤ n → nat_lt 0 k ≡ nat_lt (n - k) n
 less_by n k within = elim (cases_lt 0 k) [

@@ -1,5 +1,7 @@
 -- What is kept of a room's state is what a reply sends of it.
-use Rattle.std.proofs.Common.{◌≡◌, ℕ, Bool, true, false, not, cond, nat_lt, nat_le, ◌&&◌, ◌||◌, List, [], ◌∷◌, Option, Some, None, option_map, filter, is_some, refl, ap, ap₂, sym, ◌∙◌}
+use Rattle.std.proofs.Common.{◌≡◌, ℕ, ◌+◌, ◌++◌, drop, append_assoc, Bool, true, false, not, cond, nat_lt, nat_le, ◌&&◌, ◌||◌, List, [], ◌∷◌, Option, Some, None, option_map, filter, is_some, refl, ap, ap₂, subst, sym, ◌∙◌}
+use Rattle.std.proofs.lemmas.List.Elements.{filter-append}
+use Rattle.std.specs.Borrow.{Bor}
 use Rattle.std.specs.List.{AllByRecursion}
 use Rattle.mx_window.specs.Lasts.{current}
 use Rattle.mx_window.specs.Windows.{between}
@@ -15,7 +17,12 @@ use Rattle.mx_lazy.specs.declared.picker.Pick.{Pick}
 use Rattle.mx_lazy.specs.declared.picker.Pick.TheVariants as kind
 use Rattle.mx_lazy.specs.declared.picker.Picker.{Picker}
 use Rattle.mx_lazy.proofs.Picking.{picks_same}
-use Rattle.mx_parts.specs.Picks.{states_by}
+use Rattle.mx_parts.specs.Picks.{is_kept_by, states_by}
+use Rattle.mx_parts.specs.Readings.{events_of, front_of, room_in, sieve}
+use Rattle.mx_parts.specs.Sections as part
+use Rattle.mx_parts.specs.declared.reading.Reading.{Reading}
+use Rattle.mx_parts.specs.declared.window.Window.{Window}
+use Rattle.mx_snapshot.specs.Looks.{all_now}
 
 twice : (p q : Event → Bool) (es : List Event) → filter p (filter q es) ≡ filter (λ e. q e && p e) es
 twice p q [] = refl
@@ -86,3 +93,37 @@ module _ (f : Sieve) (es sent : List Event) (p : Picker) (lazy : p.lazy ≡ f.la
     by kind.New is l off h = ap (filter kept) h ∙ whole
     by (kind.Later from since base redundant stays) is true on h = ap (filter kept) h ∙ whole
     by (kind.Later from since base redundant stays) is false off h = ap (filter kept) h ∙ later from since base redundant stays is off (state_list r es q) ∙ whole
+
+kept_is : (v : Reading) (p : Picker) (xs : List Event) → filter (is_kept_by v p) xs ≡ filter (λ e. (sieve v).keeps e && picked p e) xs
+unfolding is_kept_by
+kept_is v p xs = refl
+
+-- what the code keeps, by a picker of the reading
+pub state_is : (v : Reading) (p : Picker) (sent : List Event) → p.user.now ≡ v.user.now → p.lazy ≡ (sieve v).lazy → HasSenders p.senders sent → IsStayed v.user.now (events_of v) p.pick
+    → (q : ℕ) (made : List Event) → made ≡ filter (is_kept_by v p) (states_by (room_in v) (events_of v) p.lazy p.pick q)
+    → made ≡ part.state_part v (pick_of (room_in v) p.heroes.now p.pick sent) q
+state_is v p sent user lazy senders stayed q made is =
+    is ∙ kept_is v p (states_by (room_in v) (events_of v) p.lazy p.pick q)
+    ∙ subst
+    (λ u. IsStayed u (events_of v) p.pick
+    → filter (λ e. (sieve v).keeps e && picked p e) (states_by (room_of (sieve v) u (events_of v)) (events_of v) p.lazy p.pick q)
+    ≡ state_part (room_of (sieve v) u (events_of v)) (events_of v) (pick_of (room_of (sieve v) u (events_of v)) p.heroes.now p.pick sent) q)
+    user (λ own. states_kept (sieve v) (events_of v) sent p lazy senders own q (states_by (room_of (sieve v) p.user.now (events_of v)) (events_of v) p.lazy p.pick q) refl) stayed
+
+-- the state that is sent with a window's section
+pub part_state : (v : Reading) (w : Window) (p : Picker) (sent made : List Event) (cut q : ℕ) → p.user.now ≡ v.user.now → p.lazy ≡ (sieve v).lazy
+    → HasSenders p.senders sent → IsStayed v.user.now (events_of v) p.pick → sent ≡ part.section_of v w → cut ≡ part.cut_of v w → q ≡ cond w.after w.high cut
+    → made ≡ filter (is_kept_by v p) (states_by (room_in v) (events_of v) p.lazy p.pick q)
+    → made ≡ part.state_of v w (pick_of (room_in v) p.heroes.now p.pick)
+part_state v w p sent made cut q user lazy senders stayed same before at is =
+    state_is v p sent user lazy senders stayed q made is
+    ∙ ap₂ (λ (s : List Event) (n : ℕ). part.state_part v (pick_of (room_in v) p.heroes.now p.pick s) n) same (at ∙ ap (λ n. cond w.after w.high n) before)
+
+-- one event more is looked at
+pub kept_step : (t : Event → Bool) (states : List (Bor Event)) (i : ℕ) (e : Bor Event) (made new : List Event) → drop i states ≡ e ∷ drop (i + 1) states
+    → made ++ filter t (all_now (drop i states)) ≡ filter t (all_now states) → new ≡ made ++ filter t (e.now ∷ [])
+    → new ++ filter t (all_now (drop (i + 1) states)) ≡ filter t (all_now states)
+kept_step t states i e made new next before more =
+    ap (λ l. l ++ filter t (all_now (drop (i + 1) states))) more
+    ∙ append_assoc made (filter t (e.now ∷ [])) (filter t (all_now (drop (i + 1) states)))
+    ∙ ap (λ l. made ++ l) (sym (filter-append t (e.now ∷ []) (all_now (drop (i + 1) states))) ∙ ap (λ l. filter t (all_now l)) (sym next)) ∙ before

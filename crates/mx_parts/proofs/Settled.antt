@@ -51,8 +51,8 @@ module _ {E K : Type 0} (r : Room E K) (es : List E) (front : ℕ) (up : Ascends
             ∙ sym (ap (last_at r.at mid) is))
         by None is p was =
             let n : limit < length (sendable r es front mid high) =
-                length-last limit (sendable r es front mid high)
-                (subst (λ c. length (last limit (sendable r es front c high)) < length (sendable r es front mid high)) (ap (last_at r.at mid) is) less) in
+            length-last limit (sendable r es front mid high)
+            (subst (λ c. length (last limit (sendable r es front c high)) < length (sendable r es front mid high)) (ap (last_at r.at mid) is) less) in
             ap (λ c. last limit (sendable r es front c high))
             (ap (last_at r.at low) (last_of-split r.at (λ e. is_kept r e && not (r.sends front e)) low mid high 0 es up h k ∙ ap₂ option_or is was))
             ∙ above p was n

@@ -1,7 +1,10 @@
 -- How events are shown by their first redaction, and which events are found at their positions.
 use Rattle.std.proofs.Common.{◌≡◌, ℕ, ◌-◌, Bool, true, false, cond, ◌&&◌, ◌||◌, nat_le, nat_lt, length, List, [], ◌∷◌, map, filter, Option, Some, None, option_map, refl, ap, ap₂, subst, sym, ◌∙◌}
 use Rattle.std.proofs.lemmas.Option.{same_Some}
+use Rattle.std.specs.Borrow.{Bor}
 use Rattle.std.specs.List.{list_any, AllByRecursion}
+use Rattle.std.specs.Option.{option_copied}
+use Rattle.std.specs.Prelude.{IfSome}
 use Rattle.mx_ids.specs.declared.room_id.RoomId.{RoomId}
 use Rattle.mx_window.specs.Lasts.{current, keep_if}
 use Rattle.mx_window.specs.Windows.{between, stand_from}
@@ -21,15 +24,15 @@ use Rattle.mx_folding.specs.Parts.{state_list}
 use Rattle.mx_folding.specs.Redactions as fold
 use Rattle.mx_folding.specs.Visible.{is_visible}
 use Rattle.mx_snapshot.specs.Events.{first_redaction}
+use Rattle.mx_snapshot.specs.FirstRedactions.{FirstsAreOfRoom}
 use Rattle.mx_snapshot.specs.Looks.{at_position}
-use Rattle.mx_snapshot.proofs.Firsts.{firsts_are}
-use Rattle.mx_snapshot.proofs.Found.{all_found}
+use Rattle.mx_parts.proofs.Placed.{all_found}
 use Rattle.mx_view.specs.Readings.{viewer_of}
 use Rattle.mx_view.specs.Shows.{shown_for}
 use Rattle.mx_view.proofs.Pictured.{same_shown}
 use Rattle.mx_parts.specs.Readings.{IsRead, events_of, front_of, room_in, sieve, window_of}
 use Rattle.mx_parts.specs.Sections.{AreListed, IsListed, section_of, state_part, is_limited, cut_of, state_of}
-use Rattle.mx_parts.specs.Shows.{PartsAre, all_shown, seen_as}
+use Rattle.mx_parts.specs.Shows.{PartsAre, all_shown}
 use Rattle.mx_parts.specs.declared.reading.Reading.{Reading}
 use Rattle.mx_parts.specs.declared.window.Window.{Window}
 
@@ -37,17 +40,17 @@ use Rattle.mx_parts.specs.declared.window.Window.{Window}
 
 none_any : (test : Event → Bool) (xs : List Event) → first_of (filter test xs) ≡ None → list_any test xs ≡ false
 none_any test [] is = refl
-none_any test (x ∷ xs) is = by (test x) is where
-  by : (b : Bool) → first_of (cond b (x ∷ filter test xs) (filter test xs)) ≡ None → (b || list_any test xs) ≡ false
-  by true h = absurd cc
-  by false h = none_any test xs h
+none_any test (x ∷ xs) is = by (test x) (λ h. none_any test xs h) is where
+  by : (b : Bool) → (first_of (filter test xs) ≡ None → list_any test xs ≡ false) → first_of (cond b (x ∷ filter test xs) (filter test xs)) ≡ None → (b || list_any test xs) ≡ false
+  by true rest h = absurd cc
+  by false rest h = rest h
 
 some_any : (test : Event → Bool) (xs : List Event) (e : Event) → first_of (filter test xs) ≡ Some e → list_any test xs ≡ true
 some_any test [] e is = absurd cc
-some_any test (x ∷ xs) e is = by (test x) is where
-  by : (b : Bool) → first_of (cond b (x ∷ filter test xs) (filter test xs)) ≡ Some e → (b || list_any test xs) ≡ true
-  by true h = refl
-  by false h = some_any test xs e h
+some_any test (x ∷ xs) e is = by (test x) (λ h. some_any test xs e h) is where
+  by : (b : Bool) → (first_of (filter test xs) ≡ Some e → list_any test xs ≡ true) → first_of (cond b (x ∷ filter test xs) (filter test xs)) ≡ Some e → (b || list_any test xs) ≡ true
+  by true rest h = refl
+  by false rest h = rest h
 
 first_among : (P : Event → Type 0) (xs : List Event) (e : Event) → AllByRecursion P xs → first_of xs ≡ Some e → P e
 first_among P [] e all is = absurd cc
@@ -89,7 +92,7 @@ module _ (v : Reading) (placed : stand_from position_of 1 v.events.now ≡ true)
   pub room_listed : AllByRecursion (IsListed v) (events_of v)
   room_listed =
       AllByRecursion-both (λ (e : Event). at_position v.events.now e.id.at ≡ Some e) (λ (e : Event). same_room e.room v.room.now ≡ true) (events_of v)
-      (AllByRecursion-filter (λ (e : Event). at_position v.events.now e.id.at ≡ Some e) (λ (e : Event). same_room e.room v.room.now) v.events.now (all_found position_of v.events.now placed))
+      (AllByRecursion-filter (λ (e : Event). at_position v.events.now e.id.at ≡ Some e) (λ (e : Event). same_room e.room v.room.now) v.events.now (all_found v.events.now placed))
       (AllByRecursion-passed (λ (e : Event). same_room e.room v.room.now) v.events.now)
 
   pub redactions_listed : (e : Event) (front : ℕ) → AllByRecursion (IsListed v) (redactions (events_of v) e front)
@@ -121,15 +124,17 @@ pub own_room : (v : Reading) (e : Event) → IsListed v e → of_room e.room v.e
 own_room v e is = ap (λ room. of_room room v.events.now) (same_is e.room v.room.now is.1)
 
 -- what the events' index finds is the first redaction
-pub first_is : (v : Reading) → stand_from position_of 1 v.events.now ≡ true → ((room : RoomId) → IsValid (of_room room v.events.now))
+pub first_is : FirstsAreOfRoom → (v : Reading) → stand_from position_of 1 v.events.now ≡ true → ((room : RoomId) → IsValid (of_room room v.events.now))
     → (e : Event) → IsListed v e → (front : ℕ) → front ≡ front_of v
     → keep_if (λ (d : Event). nat_le d.id.at front) (first_redaction v.events.now e.id.at) ≡ first_of (redactions (events_of v) e (front_of v))
-first_is v placed valid e is front here =
-    firsts_are v.events.now placed valid e is.0 front
+first_is firsts v placed valid e is front here =
+    firsts v.events.now placed valid e is.0 front
     ∙ ap₂ (λ es f. first_of (redactions es e f)) (own_room v e is) here
 
-pub first_listed : (v : Reading) → stand_from position_of 1 v.events.now ≡ true → (e by : Event) → first_of (redactions (events_of v) e (front_of v)) ≡ Some by → IsListed v by
-first_listed v placed e by is = first_among (IsListed v) (redactions (events_of v) e (front_of v)) by (redactions_listed v placed e (front_of v)) is
+pub first_listed : (v : Reading) → stand_from position_of 1 v.events.now ≡ true → (e : Event) (o : Option (Bor Event))
+    → option_copied o ≡ first_of (redactions (events_of v) e (front_of v)) → IfSome o (λ by. IsListed v by.now)
+first_listed v placed e None is = tt
+first_listed v placed e (Some by) is = first_among (IsListed v) (redactions (events_of v) e (front_of v)) by.now (redactions_listed v placed e (front_of v)) (sym is)
 
 -- ---- the law
 

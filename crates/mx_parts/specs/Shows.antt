@@ -1,8 +1,5 @@
 -- What a reply sends of a room's events, with each event as it is shown to the user.
-use Rattle.std.specs.Prelude.{◌≡◌, List, map, Option, Some, None, if◌then◌else◌}
-use Rattle.mx_event.specs.Shown.{shown}
-use Rattle.mx_folding.specs.Visible.{is_visible}
-use Rattle.mx_view.specs.Readings.{viewer_of}
+use Rattle.std.specs.Prelude.{◌≡◌, Bool, List, map}
 use Rattle.mx_event.specs.declared.event.Event.{Event}
 use Rattle.mx_event.specs.declared.event.Shown.{Shown}
 use Rattle.mx_folding.specs.Parts.{Part, part_of}
@@ -15,10 +12,6 @@ use Rattle.mx_parts.specs.declared.window.Window.{Window}
 
 abbrev pub all_shown : Reading → List Event → List Shown
 all_shown v es = map (shown_for v.user.now (events_of v) (front_of v)) es
-
--- a redaction that the user may see, as shown at the front
-abbrev pub seen_as : Reading → Event → Option Event
-seen_as v by = if is_visible (viewer_of v.user.now) (events_of v) (front_of v) by then Some (shown (events_of v) by (front_of v)) else None
 
 abbrev pub shown_part : Reading → Window → (List Event → Event → Bool) → RoomPart
 shown_part v w pick = record {

@@ -1,9 +1,10 @@
 //! The state that a reply sends beside a section.
 
-ghost use Rattle.std.specs.Prelude.{◌≡◌, ◌&&◌, ◌++◌, [], ◌∷◌, filter, IfOk, OnOk};
-ghost use Rattle.mx_lazy.specs.Picks.{picked};
-ghost use Rattle.mx_parts.specs.Picks.{states_by};
-ghost use Rattle.mx_parts.specs.Readings.{IsRead, events_of, room_in, sieve};
+ghost use Rattle.std.specs.Prelude.{◌≡◌, ◌++◌, [], ◌∷◌, cond, filter, nat_lt, IfOk, OnOk};
+ghost use Rattle.mx_event.specs.declared.event.Event.{Event};
+ghost use Rattle.mx_folding.specs.Parts.{state_list};
+ghost use Rattle.mx_parts.specs.Picks.{is_kept_by, states_by};
+ghost use Rattle.mx_parts.specs.Readings.{IsRead, events_of, room_in};
 ghost use Rattle.mx_snapshot.specs.Looks.{all_now};
 
 use crate::gathering::keeps;
@@ -23,7 +24,7 @@ pub(crate) fn state_part<'a>(
     position: u64,
 ) -> Result<Vec<&'a Event>, Memory>
     requires { IsRead reading.now }
-    ensures { IfOk result (λ made. all_now made.items ≡ filter (λ e. (sieve reading.now).keeps e && picked picker.now e) (states_by (room_in reading.now) (events_of reading.now) picker.now.lazy picker.now.pick position)) }
+    ensures { IfOk result (λ made. all_now made.items ≡ filter (is_kept_by reading.now picker.now) (states_by (room_in reading.now) (events_of reading.now) picker.now.lazy picker.now.pick position)) }
 {
     let states = states(alloc, reading, picker.lazy, picker.pick, position)?;
     let made = among(alloc, reading, picker, &states)?;
@@ -41,10 +42,32 @@ fn states<'a>(
     ensures { IfOk result (λ made. all_now made.items ≡ states_by (room_in reading.now) (events_of reading.now) lazy pick position) }
 {
     match pick {
-        Pick::Later { from, .. } if !lazy => {
-            difference(alloc, reading.events, reading.room, from, position)
-        }
-        _ => state_at(alloc, reading.events, reading.room, position),
+        Pick::New => whole(alloc, reading, position),
+        Pick::Later { from, .. } => after(alloc, reading, lazy, from, position),
+    }
+}
+
+fn whole<'a>(alloc: Global, reading: &Reading<'a>, position: u64) -> Result<Vec<&'a Event>, Memory>
+    ensures { IfOk result (λ made. all_now made.items ≡ state_list (room_in reading.now) (events_of reading.now) position) }
+{
+    let made = state_at(alloc, reading.events, reading.room, position)?;
+    Ok(made)
+}
+
+fn after<'a>(
+    alloc: Global,
+    reading: &Reading<'a>,
+    lazy: bool,
+    from: u64,
+    position: u64,
+) -> Result<Vec<&'a Event>, Memory>
+    ensures { IfOk result (λ made. all_now made.items ≡ cond lazy (state_list (room_in reading.now) (events_of reading.now) position) (filter (λ (e : Event). nat_lt from e.id.at) (state_list (room_in reading.now) (events_of reading.now) position))) }
+{
+    if lazy {
+        whole(alloc, reading, position)
+    } else {
+        let made = difference(alloc, reading.events, reading.room, from, position)?;
+        Ok(made)
     }
 }
 
@@ -55,7 +78,7 @@ fn among<'a>(
     states: &[&'a Event],
 ) -> Result<Vec<&'a Event>, Memory>
     requires { IsRead reading.now }
-    ensures { IfOk result (λ made. all_now made.items ≡ filter (λ e. (sieve reading.now).keeps e && picked picker.now e) (all_now states.now)) }
+    ensures { IfOk result (λ made. all_now made.items ≡ filter (is_kept_by reading.now picker.now) (all_now states.now)) }
 {
     let mut made = Vec::new(alloc);
     'states: for state in states {
@@ -64,6 +87,7 @@ fn among<'a>(
     Ok(made)
 }
 
+#[tactic(auto, unfolding(crate::specs::Picks::is_kept_by))]
 fn keep<'a>(
     made: &mut Vec<&'a Event>,
     reading: &Reading<'_>,
@@ -71,7 +95,7 @@ fn keep<'a>(
     event: &'a Event,
 ) -> Result<(), Memory>
     requires { IsRead reading.now }
-    ensures { OnOk result (all_now made.new.items ≡ all_now made.old.items ++ filter (λ e. (sieve reading.now).keeps e && picked picker.now e) (event.now ∷ [])) }
+    ensures { OnOk result (all_now made.new.items ≡ all_now made.old.items ++ filter (is_kept_by reading.now picker.now) (event.now ∷ [])) }
 {
     if keeps(reading, event) && picker.picks(event) {
         made.push(event)?;
