@@ -1,0 +1,104 @@
+//! What a page is asked for.
+
+ghost use Rattle.std.specs.Prelude.{◌≡◌, option_or, option_and_then};
+ghost use Rattle.mx_pager.specs.Asks as ask;
+
+use mx_filter::Filter;
+use mx_ids::{PageToken, RoomId, SyncToken};
+use mx_snapshot::Snapshot;
+
+/// A place in a room's list of events, by the token that carries it.
+#[derive(Clone, Copy, Debug, PartialEq, Eq)]
+pub enum Bound {
+    Sync(SyncToken),
+    Page(PageToken),
+}
+
+/// A page of a room (Client-Server API, Getting events for a room).
+#[derive(Clone, Copy)]
+pub struct PageAsk<'a> {
+    pub room: RoomId,
+    /// `dir` is `b`: from `from` on to earlier events.
+    pub backward: bool,
+    /// Absent, the list's end for a backward page and its beginning for a forward one.
+    pub from: Option<Bound>,
+    /// Absent, the other end.
+    pub to: Option<Bound>,
+    /// How many events are sent at most.
+    pub limit: u64,
+    pub filter: &'a Filter,
+}
+
+/// A component of a token that exceeds the front of its stream.
+#[derive(Clone, Copy, Debug, PartialEq, Eq)]
+pub(crate) struct Ahead {
+    pub(crate) asked: u64,
+    pub(crate) front: u64,
+}
+
+impl Bound {
+    /// The position behind which the place lies.
+    pub(crate) fn place(&self) -> u64
+        ensures { result ≡ ask.place_of self.now }
+    {
+        match self {
+            Bound::Sync(token) => token.e,
+            Bound::Page(token) => token.at,
+        }
+    }
+
+    /// The front of events at which the list was read.
+    pub(crate) fn cut(&self) -> u64
+        ensures { result ≡ ask.cut_of self.now }
+    {
+        match self {
+            Bound::Sync(token) => token.e,
+            Bound::Page(token) => token.e,
+        }
+    }
+}
+
+/// The first component of the bounds, those of `from` first, that exceeds its stream's front.
+pub(crate) fn ahead(snapshot: &Snapshot, ask: &PageAsk<'_>) -> Option<Ahead>
+    ensures { result ≡ ask.asks_ahead snapshot.now ask.now }
+{
+    match bound_ahead(snapshot, &ask.from) {
+        Some(ahead) => Some(ahead),
+        None => bound_ahead(snapshot, &ask.to),
+    }
+}
+
+fn bound_ahead(snapshot: &Snapshot, bound: &Option<Bound>) -> Option<Ahead>
+    ensures { result ≡ option_and_then (ask.ahead_of snapshot.now) bound.now }
+{
+    match bound {
+        Some(Bound::Sync(token)) => token_ahead(snapshot, token),
+        Some(Bound::Page(token)) => exceeds(token.e, snapshot.events.front()),
+        None => None,
+    }
+}
+
+fn token_ahead(snapshot: &Snapshot, token: &SyncToken) -> Option<Ahead>
+    ensures { result ≡ ask.token_ahead snapshot.now token.now }
+{
+    if let Some(ahead) = exceeds(token.e, snapshot.events.front()) {
+        return Some(ahead);
+    }
+    if let Some(ahead) = exceeds(token.r, snapshot.receipts.front()) {
+        return Some(ahead);
+    }
+    if let Some(ahead) = exceeds(token.a, snapshot.accounts.front()) {
+        return Some(ahead);
+    }
+    exceeds(token.d, 0)
+}
+
+fn exceeds(asked: u64, front: u64) -> Option<Ahead>
+    ensures { result ≡ ask.exceeds asked front }
+{
+    if front < asked {
+        Some(Ahead { asked, front })
+    } else {
+        None
+    }
+}
