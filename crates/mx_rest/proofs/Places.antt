@@ -53,7 +53,8 @@ module _ {E : Type 0} (at : E → ℕ) (xs : List E) (stands : stand_from at 1 x
     off false b h = h
 
   -- none passes after the last one that does
-  pub none_after : (test : E → Bool) (since : ℕ) → since ≤ length xs → last_position at test xs ≤ since → list_any test (between at since (length xs) xs) ≡ false
+  pub none_after : (test : E → Bool) (since : ℕ) → since ≤ length xs → last_position at test xs ≤ since
+      → list_any test (between at since (length xs) xs) ≡ false
   none_after test since h up =
       let last = last_position at test xs in
       let is : last ≡ last_at at 0 (last_of test (between at 0 (length xs) xs)) = ap (λ l. last_at at 0 (last_of test l)) (sym whole) in

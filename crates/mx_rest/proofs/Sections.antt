@@ -69,7 +69,8 @@ module _ (f : Selection) (user : List ℕ) (room : RoomId) where
   receipts_join : (xs ys : List Receipt) → with_receipts (receipts_in f user room xs) (receipts_in f user room ys) ≡ receipts_in f user room (xs ++ ys)
   receipts_join xs ys =
       ap values_of
-      (ap₂ (λ (v d : List (Key × Receipt)). over key_cmp v d) (latest_keyed key_cmp key_exact key_of (seen xs)) (latest_keyed key_cmp key_exact key_of (seen ys))
+      (ap₂ (λ (v d : List (Key × Receipt)). over key_cmp v d) (latest_keyed key_cmp key_exact key_of (seen xs))
+      (latest_keyed key_cmp key_exact key_of (seen ys))
       ∙ latest_join key_cmp key_total key_exact key_of itself (seen xs) (seen ys)
       ∙ ap (latest key_cmp key_of itself) (sym (seen-append xs ys)))
 
@@ -94,7 +95,8 @@ module _ (f : Selection) (user : List ℕ) (room : RoomId) where
       → with_account (account_in f user room (take i xs)) (account_in f user room (news (take i xs) (take j xs))) ≡ account_in f user room (take j xs)
   account_grow i j xs h =
       let new = news (take i xs) (take j xs) in
-      latest_join (slice_cmp nat_cmp) nat_list_cmp_total texts_exact kind_of content_of (filter (is_sent f user room) (take i xs)) (filter (is_sent f user room) new)
+      latest_join (slice_cmp nat_cmp) nat_list_cmp_total texts_exact kind_of content_of (filter (is_sent f user room) (take i xs))
+      (filter (is_sent f user room) new)
       ∙ ap (latest (slice_cmp nat_cmp) kind_of content_of) (sym (filter-append (is_sent f user room) (take i xs) new))
       ∙ ap (account_in f user room) (grown i j xs h)
 
@@ -168,7 +170,9 @@ section_law name user_of lists user f room = record {
       let three = or_false counts_differ summary_differs two.1 in
       let receipts = receipts_still f user room i.r j.r lists.receipts (before_parts i j h).1 one.0 in
       let account = account_still f user room i.a j.a lists.accounts (before_parts i j h).2 two.0 in
-      let counts = counts_same (counts_in user room old) (counts_in user room new) (not_false (same_counts (counts_in user room old) (counts_in user room new)) three.0) in
-      let summary = summary_same (summary_in user room old) (summary_in user room new) (not_false (same_summary (summary_in user room old) (summary_in user room new)) three.1) in
+      let counts = counts_same (counts_in user room old) (counts_in user room new)
+      (not_false (same_counts (counts_in user room old) (counts_in user room new)) three.0) in
+      let summary = summary_same (summary_in user room old) (summary_in user room new)
+      (not_false (same_summary (summary_in user room old) (summary_in user room new)) three.1) in
       λ t. record { receipts = receipts t; account = account t; counts = sym counts t; summary = sym summary t };
 }

@@ -60,10 +60,12 @@ unread_in says user front es v h =
     ∙ ap (λ o. not (bytes_eq v.sender user) && (is_visible (viewer_of user) es front v && (not (is_redacted es v front) && is_some o)))
     (notified_in says front es v h)
 
-counts_first : (says : Says) (user : List ℕ) (es : List Event) (front mark : ℕ) → counts_by says user (first front es) front mark ≡ counts_by says user es front mark
+counts_first : (says : Says) (user : List ℕ) (es : List Event) (front mark : ℕ)
+    → counts_by says user (first front es) front mark ≡ counts_by says user es front mark
 counts_first says user es front mark =
     let vs = between position_of mark front es in
-    let all = AllByRecursion-weaker (λ (v : Event). (mark < v.id.at) × (v.id.at ≤ front)) (λ (v : Event). v.id.at ≤ front) (λ v h. h.1) vs (between-within position_of mark front es) in
+    let all = AllByRecursion-weaker (λ (v : Event). (mark < v.id.at) × (v.id.at ≤ front)) (λ (v : Event). v.id.at ≤ front) (λ v h. h.1) vs
+    (between-within position_of mark front es) in
     let same : unread says user (first front es) front mark ≡ unread says user es front mark =
     ap (filter (is_unread says user (first front es) front)) (window_in mark front front es (omega arith))
     ∙ filter-same (is_unread says user (first front es) front) (is_unread says user es front) vs
@@ -96,7 +98,8 @@ entered_first user es front =
 
 -- a window up to a front of the first items
 window_taken : {E : Type 0} (at : E → ℕ) (front : ℕ) (xs : List E) → stand_from at 1 xs ≡ true → between at 0 front (take front xs) ≡ between at 0 front xs
-window_taken at front xs stands = ap (between at 0 front) (sym (between-take at front xs stands)) ∙ between-inner at 0 front 0 front xs (omega arith) (omega arith)
+window_taken at front xs stands =
+    ap (between at 0 front) (sym (between-take at front xs stands)) ∙ between-inner at 0 front 0 front xs (omega arith) (omega arith)
 
 -- a room's list up to a front
 room_taken : (room : RoomId) (front : ℕ) (events : List Event) → stand_from position_of 1 events ≡ true
@@ -113,7 +116,8 @@ pub record ArePlaced (l : Lists) : Type 0 where
 
 module _ (room : RoomId) (user : List ℕ) (l : Lists) (placed : ArePlaced l) (t : SyncToken) (events : t.e ≤ length l.events)
     (receipts : t.r ≤ length l.receipts) (accounts : t.a ≤ length l.accounts) where
-  marks_taken : mark_of room user t.e t.r (of_room room (take t.e l.events)) (take t.r l.receipts) ≡ mark_of room user t.e t.r (of_room room l.events) l.receipts
+  marks_taken : mark_of room user t.e t.r (of_room room (take t.e l.events)) (take t.r l.receipts)
+      ≡ mark_of room user t.e t.r (of_room room l.events) l.receipts
   marks_taken =
       ap₂ max (ap (furthest_in room user) (window_taken receipt.position_of t.r l.receipts placed.receipts))
       (ap (entered user t.e) (room_taken room t.e l.events placed.events) ∙ entered_first user (of_room room l.events) t.e)
@@ -130,9 +134,11 @@ module _ (room : RoomId) (user : List ℕ) (l : Lists) (placed : ArePlaced l) (t
       let a : length (take t.a l.accounts) ≡ t.a = length-take-le t.a l.accounts accounts in
       (λ i. counts_at room user (take t.e l.events) (take t.r l.receipts) (take t.a l.accounts) (record { e = e i; r = r i; a = a i; d = 0; b = 0 }))
       ∙ ap₂ (λ (rules : Rules) (m : ℕ). counts_by (says_of rules room user) user (of_room room (take t.e l.events)) t.e m) rules_taken marks_taken
-      ∙ ap (λ (es : List Event). counts_by (says_of (rules_at user t.a l.accounts) room user) user es t.e (mark_of room user t.e t.r (of_room room l.events) l.receipts))
+      ∙ ap (λ (es : List Event). counts_by (says_of (rules_at user t.a l.accounts) room user) user es t.e
+      (mark_of room user t.e t.r (of_room room l.events) l.receipts))
       (room_taken room t.e l.events placed.events)
-      ∙ counts_first (says_of (rules_at user t.a l.accounts) room user) user (of_room room l.events) t.e (mark_of room user t.e t.r (of_room room l.events) l.receipts)
+      ∙ counts_first (says_of (rules_at user t.a l.accounts) room user) user (of_room room l.events) t.e
+      (mark_of room user t.e t.r (of_room room l.events) l.receipts)
 
   pub summary_upto : summary_in user room (upto t l) ≡ summary_at user (of_room room l.events) t.e
   summary_upto =
