@@ -8,7 +8,7 @@ use Rattle.mx_account.specs.contracts.entry.Entry as Entry
 use Rattle.mx_auth.proofs.Crosses.{json_send, json_sync}
 use Rattle.mx_event.specs.contracts.event.Event as Event
 use Rattle.mx_event.proofs.event.Txn.TheSendSync as txn
-use Rattle.mx_front.proofs.handles.Pass.TheSendSync as pass
+use Rattle.mx_engine.proofs.seat.Seat.TheSendSync as pass
 use Rattle.mx_ids.proofs.event_id.EventId.TheSendSync as id
 use Rattle.mx_ids.proofs.room_id.RoomId.TheSendSync as room_id
 use Rattle.mx_ids.proofs.text.Text.TheSendSync as text

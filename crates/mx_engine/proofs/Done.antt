@@ -17,12 +17,12 @@ use Rattle.mx_writers.specs.Decision.{Decision}
 use Rattle.mx_writers.specs.declared.answers.Written.{Written}
 use Rattle.mx_writers.specs.declared.answers.Refused.{Refused}
 use Rattle.mx_writers.specs.declared.answers.Refused.TheVariants.{Fault, Full, Memory}
-use Rattle.mx_engine.specs.Answers.{Act, AllBegin, IsDone, KeepsAct, Lists, Puts, Reads, Sends, Stops, counts, counts_of, event_refusal, lane_of, never, reading, sync_said, told_at, write_stored}
+use Rattle.mx_engine.specs.Answers.{Act, AllBegin, IsDone, KeepsAct, Lists, Puts, Reads, Sends, Stops, counts, counts_of, event_refusal, lane_of, made_for, never, reading, sync_said, told_at, write_stored}
 use Rattle.mx_engine.specs.Asked.{Aimed}
 use Rattle.mx_engine.specs.Decided.{decided_entry, entry_placed}
 use Rattle.mx_engine.specs.EventsDecided.{decided_events, plan_of}
 use Rattle.mx_engine.specs.Plans.{decided_plan}
-use Rattle.mx_engine.specs.Written.{IsWritten, mark_by, said_by}
+use Rattle.mx_engine.specs.Written.{IsWritten, made_after, made_by, mark_by, said_by}
 use Rattle.mx_engine.specs.declared.accounts.Never.{Never}
 use Rattle.mx_engine.specs.declared.aim.Told.{Told}
 use Rattle.mx_engine.specs.declared.answered.Answered.{Answered}
@@ -46,6 +46,37 @@ mark_now k seen now (Ok w) = refl
 mark_now k seen now (Err (Fault f m)) = refl
 mark_now k seen now (Err (Full n m)) = refl
 mark_now k seen now (Err Memory) = refl
+
+-- the count of stores after a write is that of its mark
+pub made_mark : {E : Type 0} (k : ℕ) (seen : Counts) (now n : ℕ) (r : Result Written (Refused E)) → made_by n r ≡ made_after n (mark_by k seen now r).own
+made_mark k seen now n (Ok w) = refl
+made_mark k seen now n (Err (Fault f m)) = refl
+made_mark k seen now n (Err (Full a m)) = refl
+made_mark k seen now n (Err Memory) = refl
+
+made_own : {E : Type 0} (k now n o g : ℕ) (seen : Counts) (r : Result Written (Refused E)) (m : Mark) → g ≡ o → n ≡ made_by g r → m ≡ mark_by k seen now r → n ≡ made_after o m.own
+made_own k now n o g seen r m same is mark = is ∙ made_mark k seen now g r ∙ ap (λ x. made_after x (mark_by k seen now r).own) same ∙ ap (λ (x : Mark). made_after o x.own) (sym mark)
+
+-- the stores that are made with a pass are counted as the mark of the write says
+pub sent_made : {E : Type 0} (k : ℕ) (draft : EventDraft) (tells : Told) (aimed : Aimed) (now n : ℕ) (seen old glanced : Counts) (r : Result Written (Refused E)) (m : Mark)
+    → ◌≡◌ {A = Aimed} (Ok (record { writer = k; plan = plan_of draft; told = tells })) aimed → glanced ≡ old → n ≡ made_by glanced.events r → m ≡ mark_by k seen now r
+    → ◌≡◌ {A = Counts} (record glanced { events = n }) (made_for (Sends aimed) m old)
+sent_made k draft tells aimed now n seen old glanced r m is same by mark =
+    subst (λ x. ◌≡◌ {A = Counts} (record glanced { events = n }) (made_for (Sends x) m old)) is
+    (λ i. record {
+      events = made_own k now n old.events glanced.events seen r m (ap (λ (c : Counts). c.events) same) by mark i;
+      receipts = (same i).receipts;
+      accounts = (same i).accounts;
+    })
+
+pub put_made : {E : Type 0} (k now n : ℕ) (entry : Entry) (seen old glanced : Counts) (r : Result Written (Refused E)) (m : Mark)
+    → glanced ≡ old → n ≡ made_by glanced.accounts r → m ≡ mark_by k seen now r
+    → ◌≡◌ {A = Counts} (record glanced { accounts = n }) (made_for (Puts k entry) m old)
+put_made k now n entry seen old glanced r m same by mark = λ i. record {
+  events = (same i).events;
+  receipts = (same i).receipts;
+  accounts = made_own k now n old.accounts glanced.accounts seen r m (ap (λ (c : Counts). c.accounts) same) by mark i;
+}
 
 -- what is shown is what is covered
 shown_covered : {I : Type 0} (h : List (Stored I)) (parts : Taken I) → Shows h parts → parts.items ≡ covered h

@@ -15,7 +15,7 @@ use Rattle.mx_writers.specs.Decision.{Decision, Stores, Keeps, Refuses}
 use Rattle.mx_engine.specs.Asked.{Aimed, Site, create_aimed, create_refusal, invite_aimed, join_aimed, member_aimed, put_entry, redact_aimed, send_aimed, state_aimed, unban_aimed, writer_for}
 use Rattle.mx_engine.specs.Decided.{decided_entry, entry_placed}
 use Rattle.mx_engine.specs.Plans.{decided_plan}
-use Rattle.mx_engine.specs.Written.{KeepsMark, mark_of}
+use Rattle.mx_engine.specs.Written.{KeepsMark, made_after, mark_of}
 use Rattle.mx_engine.specs.declared.accounts.Never.{Never}
 use Rattle.mx_engine.specs.declared.aim.Told.{Told}
 use Rattle.mx_engine.specs.declared.aim.Told.TheVariants as told
@@ -184,6 +184,13 @@ KeepsAct stops (Sends (Err r)) m old new = IsRead m
 KeepsAct stops (Sends (Ok w)) m old new =
     KeepsMark placed_event w.writer stops.events (write_stored (decided_plan w.writer (lane_of new.events w.writer m.lane) w.plan) m.full) m old.events new.events
 KeepsAct stops (Puts k entry) m old new = KeepsMark entry_placed k stops.accounts (write_stored (decided_entry entry) m.full) m old.accounts new.accounts
+
+-- how many stores were made with a pass after an answer of this mark: its own write counts, and there is no other
+abbrev pub made_for : Act → Mark → Counts → Counts
+made_for (Reads reads) m made = made
+made_for (Sends (Err r)) m made = made
+made_for (Sends (Ok w)) m made = record made { events = made_after made.events m.own }
+made_for (Puts k entry) m made = record made { accounts = made_after made.accounts m.own }
 
 -- what a pass had seen begins what it has seen
 pub record AllBegin (old new : Lists) : Type 0 where

@@ -6,6 +6,7 @@ use Rattle.mx_writers.specs.declared.gate.Gate.{Ghosts}
 use Rattle.mx_engine.specs.Answers.{Lists, Stops}
 use Rattle.mx_engine.specs.Asked.{Aimed, Site}
 use Rattle.mx_engine.specs.EventsDecided.{plan_of}
+use Rattle.mx_engine.specs.declared.answered.Counts.{Counts}
 use Rattle.mx_engine.specs.declared.aim.Aim.{Aim}
 use Rattle.mx_engine.specs.declared.aim.Aim.TheVariants as aim
 use Rattle.mx_engine.specs.declared.ask.Ask.{Ask}
@@ -15,13 +16,20 @@ use Rattle.mx_engine.specs.declared.held.EnginePass.{EnginePass}
 
 -- what a pass has seen of each stream
 abbrev pub lists_of : EnginePass → Lists
-lists_of p = record { events = seen_by p.events; receipts = seen_by p.receipts; accounts = seen_by p.accounts }
+lists_of p = record { events = seen_by p.events.pass; receipts = seen_by p.receipts.pass; accounts = seen_by p.accounts.pass }
+
+-- how many stores of each stream were made with a pass, modulo 2^64
+abbrev pub made_of : EnginePass → Counts
+made_of p = record { events = p.events.made; receipts = p.receipts.made; accounts = p.accounts.made }
+
+abbrev pub none_made : Counts
+none_made = record { events = 0; receipts = 0; accounts = 0 }
 
 -- the numbers of looks at each stream have risen
 pub record HasLooked (old new : EnginePass) : Type 0 where
-  pub events : (reads old.events).looks < (reads new.events).looks
-  pub receipts : (reads old.receipts).looks < (reads new.receipts).looks
-  pub accounts : (reads old.accounts).looks < (reads new.accounts).looks
+  pub events : (reads old.events.pass).looks < (reads new.events.pass).looks
+  pub receipts : (reads old.receipts.pass).looks < (reads new.receipts.pass).looks
+  pub accounts : (reads old.accounts.pass).looks < (reads new.accounts.pass).looks
 
 -- each answer but that to `whoami` looks at each stream
 abbrev pub LooksFor : Ask → EnginePass → EnginePass → Type 0
@@ -50,9 +58,9 @@ module _ {G : Type 0} {g : Ghosts G} where
 
   -- the pass is one of the engine's streams
   pub record Ties (e : Engine G g) (p : EnginePass) : Type 0 where
-    pub events : place_of_pass p.events ≡ place_of e.events.stream
-    pub receipts : place_of_pass p.receipts ≡ place_of e.receipts.stream
-    pub accounts : place_of_pass p.accounts ≡ place_of e.accounts.stream
+    pub events : place_of_pass p.events.pass ≡ place_of e.events.stream
+    pub receipts : place_of_pass p.receipts.pass ≡ place_of e.receipts.stream
+    pub accounts : place_of_pass p.accounts.pass ≡ place_of e.accounts.stream
 
   -- of each stream no block is drawn once this many positions were
   abbrev pub stops_of : Engine G g → Stops

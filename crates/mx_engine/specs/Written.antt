@@ -1,5 +1,5 @@
 -- A write through a pass, in terms of what the pass had seen and has seen, and the law of its mark.
-use Rattle.std.specs.Prelude.{◌≡◌, ℕ, ◌+◌, ◌≤◌, ◌==◌, List, [], Bool, true, false, Option, Some, None, Result, Ok, Err, length, slice_get, if◌then◌else◌}
+use Rattle.std.specs.Prelude.{◌≡◌, ℕ, ◌+◌, ◌%◌, ◌^◌, ◌≤◌, ◌==◌, List, [], Bool, true, false, Option, Some, None, Result, Ok, Err, length, slice_get, if◌then◌else◌}
 use Rattle.mx_core.specs.declared.history.Stored.{Stored}
 use Rattle.mx_core.specs.History.{own, stored_count, Begins}
 use Rattle.mx_writers.specs.declared.answers.Written.{Written}
@@ -28,9 +28,19 @@ pub record IsWritten {I D E : Type 0} (place : Placing I) (decides : ℕ → Lis
   pub begins : Begins old new
   pub outcome : Outcome place (decides k mine draft) k stop mine answer new
 
--- the mark of a write by the writer k
+-- the position of what a write stored
 abbrev pub own_by : Written → Option ℕ
 own_by w = if w.count == 0 then None else Some w.first
+
+-- how many stores were made, modulo 2^64, after a write that stored at a position, or nothing
+abbrev pub made_after : ℕ → Option ℕ → ℕ
+made_after n None = n
+made_after n (Some at) = (n + 1) % 2 ^ 64
+
+-- the same after the answer of a write
+abbrev pub made_by : {E : Type 0} → ℕ → Result Written (Refused E) → ℕ
+made_by n (Ok w) = made_after n (own_by w)
+made_by n (Err refused) = n
 
 abbrev pub mark_of : Counts → ℕ → Option (ℕ × ℕ) → Option ℕ → Option ℕ → Bool → Mark
 mark_of seen now lane own full memory = record {
@@ -45,6 +55,7 @@ mark_of seen now lane own full memory = record {
   memory = memory;
 }
 
+-- the mark of a write by the writer k
 abbrev pub mark_by : {E : Type 0} → ℕ → Counts → ℕ → Result Written (Refused E) → Mark
 mark_by k seen now (Ok w) = mark_of seen now (Some (k, w.lane)) (own_by w) None false
 mark_by k seen now (Err (Fault f m)) = mark_of seen now (Some (k, m)) None None false

@@ -2,9 +2,9 @@
 
 ghost use Rattle.std.specs.Prelude.{◌≡◌, IfOk, option_and_then};
 ghost use Rattle.mx_front.specs.Calls.{Shows};
-ghost use Rattle.mx_engine.specs.Answers.{AllBegin, IsAnswered, IsDone, account_at, ahead_of, begun_at, sync_said, whoami_said};
+ghost use Rattle.mx_engine.specs.Answers.{AllBegin, IsAnswered, IsDone, account_at, ahead_of, asked, begun_at, made_for, sync_said, whoami_said};
 ghost use Rattle.mx_engine.specs.Asked.{put_entry};
-ghost use Rattle.mx_engine.specs.Shown.{HasLooked, IsAsk, LooksFor, Ties, lists_of, site_of, stops_of};
+ghost use Rattle.mx_engine.specs.Shown.{HasLooked, IsAsk, LooksFor, Ties, lists_of, made_of, site_of, stops_of};
 ghost use Rattle.mx_engine.specs.declared.ask.Ask.TheVariants as asks;
 
 use crate::answered::Answered;
@@ -38,6 +38,7 @@ impl<G: Gate + Drop> Engine<G> {
         requires ask { IsAsk ask }
         ensures ties { Ties self.now pass.new }
         ensures answered { IsAnswered (site_of self.now) (stops_of self.now) now who.now ask (lists_of pass.old) (lists_of pass.new) result }
+        ensures made { made_of pass.new ≡ made_for (asked (site_of self.now) now who.now ask) result.mark (made_of pass.old) }
         ensures looks { LooksFor ask pass.old pass.new }
         ensures now { result.mark.now ≡ now }
     {
@@ -152,6 +153,7 @@ impl<G: Gate + Drop> Engine<G> {
         requires ties { Ties self.now pass.old }
         ensures ties { Ties self.now pass.new }
         ensures answered { IsAnswered (site_of self.now) (stops_of self.now) now who.now (asks.Sync since) (lists_of pass.old) (lists_of pass.new) result }
+        ensures made { made_of pass.new ≡ made_of pass.old }
         ensures looks { HasLooked pass.old pass.new }
         ensures now { result.mark.now ≡ now }
     {
@@ -186,12 +188,13 @@ impl<G: Gate + Drop> Engine<G> {
         requires ties { Ties self.now pass.old }
         ensures ties { Ties self.now pass.new }
         ensures begins { AllBegin (lists_of pass.old) (lists_of pass.new) }
+        ensures made { made_of pass.new ≡ made_of pass.old }
         ensures looks { HasLooked pass.old pass.new }
         ensures parts { IfOk result (λ p. Shows (lists_of pass.new).events p.0 × Shows (lists_of pass.new).receipts p.1 × Shows (lists_of pass.new).accounts p.2) }
     {
-        let events = self.events.stream().look(rt, alloc, &mut pass.events);
-        let receipts = self.receipts.stream().look(rt, alloc, &mut pass.receipts);
-        let accounts = self.accounts.stream().look(rt, alloc, &mut pass.accounts);
+        let events = pass.events.look(rt, alloc, self.events.stream());
+        let receipts = pass.receipts.look(rt, alloc, self.receipts.stream());
+        let accounts = pass.accounts.look(rt, alloc, self.accounts.stream());
         Ok((events?, receipts?, accounts?))
     }
 }

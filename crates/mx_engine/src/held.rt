@@ -6,9 +6,9 @@ ghost use Rattle.mx_front.specs.Shown.{writers_of};
 use crate::accounts::Accounts;
 use crate::events::Rooms;
 use crate::receipts::Receipts;
+use crate::seat::Seat;
 use mx_account::Entry;
 use mx_event::Event;
-use mx_front::Pass;
 use mx_receipt::Receipt;
 use mx_users::Directory;
 use mx_writers::{Gate, Writers};
@@ -31,7 +31,7 @@ pub struct Engine<G: Gate + Drop> {
 /// A reader of the streams of an engine.
 #[derive(Drop)]
 pub struct EnginePass {
-    pub(crate) events: Pass<Event>,
-    pub(crate) receipts: Pass<Receipt>,
-    pub(crate) accounts: Pass<Entry>,
+    pub(crate) events: Seat<Event>,
+    pub(crate) receipts: Seat<Receipt>,
+    pub(crate) accounts: Seat<Entry>,
 }

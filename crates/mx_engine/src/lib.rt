@@ -16,6 +16,7 @@ mod reading;
 mod receipts;
 mod routes;
 mod said;
+mod seat;
 mod seated;
 mod shelf;
 mod start;

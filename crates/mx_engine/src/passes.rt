@@ -2,7 +2,7 @@
 
 ghost use Rattle.std.specs.Prelude.{◌≡◌, IfOk, IsOk};
 ghost use Rattle.mx_engine.specs.Answers.{AllBegin};
-ghost use Rattle.mx_engine.specs.Shown.{Ties, lists_of};
+ghost use Rattle.mx_engine.specs.Shown.{Ties, lists_of, made_of, none_made};
 
 use crate::held::{Engine, EnginePass};
 use mx_ids::Memory;
@@ -17,16 +17,16 @@ impl<G: Gate + Drop> Engine<G> {
         &self.users
     }
 
-    /// A new pass that has seen what a pass of this engine has seen. Always `Ok`.
+    /// A new pass that has seen what a pass of this engine has seen, and with which no store was made. Always `Ok`.
     pub fn pass(&self, from: &mut EnginePass) -> Result<EnginePass, Memory>
         requires ties { Ties self.now from.old }
         ensures ok { IsOk result }
-        ensures from { Ties self.now from.new × (lists_of from.new ≡ lists_of from.old) }
-        ensures pass { IfOk result (λ pass. Ties self.now pass × (lists_of pass ≡ lists_of from.old)) }
+        ensures from { Ties self.now from.new × (lists_of from.new ≡ lists_of from.old) × (made_of from.new ≡ made_of from.old) }
+        ensures pass { IfOk result (λ pass. Ties self.now pass × (lists_of pass ≡ lists_of from.old) × (made_of pass ≡ none_made)) }
     {
-        let events = self.events.stream().pass(&mut from.events)?;
-        let receipts = self.receipts.stream().pass(&mut from.receipts)?;
-        let accounts = self.accounts.stream().pass(&mut from.accounts)?;
+        let events = from.events.parted(self.events.stream())?;
+        let receipts = from.receipts.parted(self.receipts.stream())?;
+        let accounts = from.accounts.parted(self.accounts.stream())?;
         Ok(EnginePass {
             events,
             receipts,
@@ -38,6 +38,7 @@ impl<G: Gate + Drop> Engine<G> {
     pub fn meet(&self, pass: &mut EnginePass, other: EnginePass)
         requires ties { Ties self.now pass.old × Ties self.now other }
         ensures ties { Ties self.now pass.new }
+        ensures made { made_of pass.new ≡ made_of pass.old }
         ensures own { AllBegin (lists_of pass.old) (lists_of pass.new) }
         ensures other { AllBegin (lists_of other) (lists_of pass.new) }
     {
@@ -46,8 +47,8 @@ impl<G: Gate + Drop> Engine<G> {
             receipts,
             accounts,
         } = other;
-        self.events.stream().meet(&mut pass.events, events);
-        self.receipts.stream().meet(&mut pass.receipts, receipts);
-        self.accounts.stream().meet(&mut pass.accounts, accounts);
+        pass.events.meet(self.events.stream(), events);
+        pass.receipts.meet(self.receipts.stream(), receipts);
+        pass.accounts.meet(self.accounts.stream(), accounts);
     }
 }

@@ -2,7 +2,7 @@
 
 ghost use Rattle.std.specs.Prelude.{◌≡◌, true};
 ghost use Rattle.mx_engine.specs.Answers.{AllBegin, counts_of, reading};
-ghost use Rattle.mx_engine.specs.Shown.{HasLooked, Ties, lists_of};
+ghost use Rattle.mx_engine.specs.Shown.{HasLooked, Ties, lists_of, made_of};
 
 use crate::answered::{Answered, Counts, Mark};
 use crate::held::{Engine, EnginePass};
@@ -61,10 +61,11 @@ impl<G: Gate + Drop> Engine<G> {
         requires ties { Ties self.now pass.old }
         ensures ties { Ties self.now pass.new }
         ensures begins { AllBegin (lists_of pass.old) (lists_of pass.new) }
+        ensures made { made_of pass.new ≡ made_of pass.old }
         ensures looks { HasLooked pass.old pass.new }
     {
-        self.events.stream().glance(rt, &mut pass.events);
-        self.receipts.stream().glance(rt, &mut pass.receipts);
-        self.accounts.stream().glance(rt, &mut pass.accounts);
+        pass.events.glance(rt, self.events.stream());
+        pass.receipts.glance(rt, self.receipts.stream());
+        pass.accounts.glance(rt, self.accounts.stream());
     }
 }

@@ -4,14 +4,15 @@ ghost use Rattle.std.specs.Prelude.{◌≡◌, ◌≤◌, [], IfOk};
 ghost use Rattle.mx_front.specs.Shown.{place_of, place_of_pass, seen_by, stop_of, writers_of};
 ghost use Rattle.mx_writers.specs.Start.{AreFreshFolds};
 ghost use Rattle.mx_engine.specs.Answers.{nothing};
-ghost use Rattle.mx_engine.specs.Shown.{Ties, lists_of, site_of, stops_of};
+ghost use Rattle.mx_engine.specs.Shown.{Ties, lists_of, made_of, none_made, site_of, stops_of};
 
 use crate::accounts::Accounts;
 use crate::events::Rooms;
 use crate::held::{Engine, EnginePass};
 use crate::receipts::Receipts;
 use crate::shelf::Shelf;
-use mx_front::{Pass, stream};
+use crate::seat::Seat;
+use mx_front::stream;
 use mx_ids::{Memory, Seq};
 use mx_room::book;
 use mx_users::Directory;
@@ -40,6 +41,7 @@ pub fn engine<G: Gate + Drop>(
     ensures site { IfOk result (λ r. site_of r.0 ≡ record { users = setup.users; writers = setup.workers }) }
     ensures stops { IfOk result (λ r. stops_of r.0 ≡ record { events = setup.stop; receipts = setup.stop; accounts = setup.stop }) }
     ensures nothing { IfOk result (λ r. lists_of r.1 ≡ nothing) }
+    ensures made { IfOk result (λ r. made_of r.1 ≡ none_made) }
 {
     let Setup {
         users,
@@ -72,16 +74,17 @@ fn started<F: Folds>(
     workers: u8,
     stop: u64,
     folds: Seq<F>,
-) -> Result<(Writers<F>, Pass<F::Item>), Memory>
+) -> Result<(Writers<F>, Seat<F::Item>), Memory>
     requires workers { (1 ≤ workers) × (workers ≤ 16) }
     requires stop { stop ≤ 281474976694272 }
     requires folds { AreFreshFolds F.writer F.own workers folds }
-    ensures place { IfOk result (λ r. place_of_pass r.1 ≡ place_of r.0.stream) }
+    ensures place { IfOk result (λ r. place_of_pass r.1.pass ≡ place_of r.0.stream) }
     ensures key { IfOk result (λ r. (writers_of r.0.stream ≡ workers) × (stop_of r.0.stream ≡ stop)) }
-    ensures nothing { IfOk result (λ r. seen_by r.1 ≡ []) }
+    ensures nothing { IfOk result (λ r. seen_by r.1.pass ≡ []) }
+    ensures made { IfOk result (λ r. r.1.made ≡ 0) }
 {
     let (stream, pens, pass) = stream(alloc, workers, stop)?;
-    Ok((writers(alloc, stream, pens, folds)?, pass))
+    Ok((writers(alloc, stream, pens, folds)?, Seat::new(pass)))
 }
 
 fn all_rooms(alloc: Global, workers: u8) -> Result<Seq<Rooms>, Memory>

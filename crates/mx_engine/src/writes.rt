@@ -1,11 +1,10 @@
 //! Writes, and their marks.
 
 ghost use Rattle.std.specs.Prelude.{◌≡◌, ◌<◌, ◌≤◌, Ok, Err, IfOk};
-ghost use Rattle.mx_front.specs.Shown.{place_of, place_of_pass, reads, seen_by, stop_of, writers_of};
-ghost use Rattle.mx_engine.specs.Answers.{Act, IsDone, Puts, Sends, event_refusal, never, told_at};
+ghost use Rattle.mx_engine.specs.Answers.{Act, IsDone, Puts, Sends, made_for, event_refusal, never, told_at};
 ghost use Rattle.mx_engine.specs.Asked.{Aimed, create_refusal};
 ghost use Rattle.mx_engine.specs.EventsDecided.{plan_of};
-ghost use Rattle.mx_engine.specs.Shown.{HasLooked, IsWithin, Ties, aimed_of, lists_of, stops_of};
+ghost use Rattle.mx_engine.specs.Shown.{HasLooked, IsWithin, Ties, aimed_of, lists_of, made_of, stops_of};
 ghost use Rattle.mx_engine.specs.Written.{IsWritten, mark_by, own_by, said_by};
 
 use crate::accounts::Never;
@@ -14,12 +13,12 @@ use crate::answered::{Answered, Counts, Mark};
 use crate::events::{EventDraft, EventFault};
 use crate::held::{Engine, EnginePass};
 use crate::said::{Refusal, Said};
+use crate::seat::write_on;
 use mx_account::Entry;
 use mx_create::CreateFault;
-use mx_front::Pass;
 use mx_ids::Memory;
 use mx_room::RoomFault;
-use mx_writers::{Folds, Gate, Refused, Writers, Written};
+use mx_writers::{Gate, Refused, Written};
 use std::alloc::Global;
 use std::sync::Wait;
 
@@ -37,6 +36,7 @@ impl<G: Gate + Drop> Engine<G> {
         requires within { IfOk aim (IsWithin self.now.workers) }
         ensures ties { Ties self.now pass.new }
         ensures done { (aimed : Aimed) → IfOk aim (λ a. aimed_of a ≡ aimed) → IsDone (stops_of self.now) (Sends aimed) (lists_of pass.old) (lists_of pass.new) result }
+        ensures made { (aimed : Aimed) → IfOk aim (λ a. aimed_of a ≡ aimed) → made_of pass.new ≡ made_for (Sends aimed) result.mark (made_of pass.old) }
         ensures looks { HasLooked pass.old pass.new }
         ensures now { result.mark.now ≡ now }
     {
@@ -80,6 +80,7 @@ impl<G: Gate + Drop> Engine<G> {
         requires within { shard < self.now.workers }
         ensures ties { Ties self.now pass.new }
         ensures done { (e : Entry) → IfOk entry (λ x. x ≡ e) → IsDone (stops_of self.now) (Puts shard e) (lists_of pass.old) (lists_of pass.new) result }
+        ensures made { (e : Entry) → IfOk entry (λ x. x ≡ e) → made_of pass.new ≡ made_for (Puts shard e) result.mark (made_of pass.old) }
         ensures looks { HasLooked pass.old pass.new }
         ensures now { result.mark.now ≡ now }
     {
@@ -103,33 +104,6 @@ impl<G: Gate + Drop> Engine<G> {
                 }
             }
         }
-    }
-}
-
-/// A write by a writer, in its turn. Where its draw is refused the pass looks at the stream once more.
-pub(crate) fn write_on<F: Folds, G: Gate, R: Wait>(
-    rt: &R,
-    alloc: Global,
-    writers: &Writers<F>,
-    shard: u8,
-    draft: F::Draft,
-    gate: &G,
-    pass: &mut Pass<F::Item>,
-) -> Result<Written, Refused<F::Fault>>
-    requires shard { shard < writers_of writers.now.stream }
-    requires stream { place_of_pass pass.old ≡ place_of writers.now.stream }
-    ensures stream { place_of_pass pass.new ≡ place_of_pass pass.old }
-    ensures looks { (reads pass.old).looks ≤ (reads pass.new).looks }
-    ensures wrote { IsWritten F.Item.placed F.decides shard (stop_of writers.now.stream) draft result (seen_by pass.old) (seen_by pass.new) }
-{
-    match writers.write_seen(rt, alloc, shard, draft, gate, pass) {
-        Ok(written) => Ok(written),
-        Err(Refused::Fault(fault, lane)) => Err(Refused::Fault(fault, lane)),
-        Err(Refused::Full(next, lane)) => {
-            writers.stream().glance(rt, pass);
-            Err(Refused::Full(next, lane))
-        }
-        Err(Refused::Memory) => Err(Refused::Memory),
     }
 }
 

@@ -1,5 +1,5 @@
 -- The last item under each key, in the order of the keys.
-use Rattle.std.specs.Prelude.{List, [], ◌×◌, fold}
+use Rattle.std.specs.Prelude.{List, [], fold}
 use Rattle.std.specs.BTreeMap.{insert_entry}
 use Rattle.std.specs.declared.cmp.Ordering.{Ordering}
 

@@ -70,9 +70,10 @@ impl Accounts {
         Ok(Accounts { entries, index })
     }
 
-    /// The front: the number of entries. Takes no memory.
+    /// The front: the number of entries, each of which stands at its own position. Takes no memory.
     pub fn front(&self) -> u64
-        ensures { result ≡ length self.now }
+        ensures count { result ≡ length self.now }
+        ensures placed { AreInPlace self.now }
     {
         self.entries.front()
     }

@@ -71,9 +71,10 @@ impl Receipts {
         Ok(Receipts { receipts, rooms })
     }
 
-    /// The front: the number of receipts. Takes no memory.
+    /// The front: the number of receipts, each of which stands at its own position. Takes no memory.
     pub fn front(&self) -> u64
-        ensures { result ≡ length self.now }
+        ensures count { result ≡ length self.now }
+        ensures placed { AreInPlace self.now }
     {
         self.receipts.front()
     }

@@ -1,4 +1,5 @@
 pub mod Twice
+pub mod Placed
 pub mod Joining
 pub mod Taking
 pub mod Entries

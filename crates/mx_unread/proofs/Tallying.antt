@@ -1,5 +1,5 @@
 -- The walk that counts.
-use Rattle.std.proofs.Common.{◌≡◌, ℕ, ◌<◌, ◌≤◌, ◌+◌, ◌-◌, Bool, true, false, cond, not, nat_lt, nat_le, ◌&&◌, List, [], ◌∷◌, ◌++◌, length, map, filter, nat_eq, Option, Some, None, is_some, refl, ap, ap₂, sym, ◌∙◌, arith, append_assoc, subst, eqb-true}
+use Rattle.std.proofs.Common.{◌≡◌, ℕ, ◌<◌, ◌≤◌, ◌+◌, ◌-◌, Bool, true, false, cond, not, nat_lt, nat_le, ◌&&◌, ◌||◌, List, [], ◌∷◌, ◌++◌, length, map, filter, nat_eq, Option, Some, None, is_some, refl, ap, ap₂, sym, ◌∙◌, arith, append_assoc, subst, eqb-true}
 use Rattle.std.proofs.lemmas.Bool.{and_parts}
 use Rattle.std.specs.List.{list_any, AllByRecursion}
 use Rattle.std.specs.Str.{bytes_eq}
@@ -14,9 +14,8 @@ use Rattle.mx_event.specs.Valid.{IsValid}
 use Rattle.mx_event.specs.declared.event.Event.{Event}
 use Rattle.mx_folding.specs.Visible.{is_visible}
 use Rattle.mx_snapshot.specs.Events.{first_redaction}
+use Rattle.mx_snapshot.specs.FirstRedactions.{FirstsAreOfRoom}
 use Rattle.mx_snapshot.specs.Looks.{at_position}
-use Rattle.mx_snapshot.proofs.Firsts.{firsts_are}
-use Rattle.mx_snapshot.proofs.Found.{all_found}
 use Rattle.mx_view.specs.Readings.{viewer_of}
 use Rattle.mx_visible.specs.Walks.{sights}
 use Rattle.mx_visible.proofs.LastJoin.{room_ascends}
@@ -24,6 +23,7 @@ use Rattle.mx_visible.proofs.Walked.{window_before}
 use Rattle.mx_unread.specs.Tallies.{added, is_found, judged, no_counts, tallied}
 use Rattle.mx_unread.specs.Unread.{Says, notified, is_unread, is_loud, counts_by}
 use Rattle.mx_unread.specs.declared.unread_counts.Counts.{Counts}
+use Rattle.mx_unread.proofs.Placed.{all_found}
 use Rattle.mx_unread.proofs.Twice.{after_in, twice}
 
 abbrev plus : Counts → Counts → Counts
@@ -105,7 +105,7 @@ tallied_is says user red front mark es up all =
 some_first : (test : Event → Bool) (es : List Event) → is_some (first_of (filter test es)) ≡ list_any test es
 some_first test [] = refl
 some_first test (e ∷ es) = by_test (test e) (some_first test es) where
-  by_test : (b : Bool) → is_some (first_of (filter test es)) ≡ list_any test es → is_some (first_of (cond b (e ∷ filter test es) (filter test es))) ≡ cond b true (list_any test es)
+  by_test : (b : Bool) → is_some (first_of (filter test es)) ≡ list_any test es → is_some (first_of (cond b (e ∷ filter test es) (filter test es))) ≡ (b || list_any test es)
   by_test true rest = refl
   by_test false rest = rest
 
@@ -117,21 +117,21 @@ room_same r s same =
     λ i. record { writer = writer i; at = at i }
 
 -- the redactions that are looked up are those of the room
-pub found_are : (room : RoomId) (events : List Event) (front : ℕ) → stand_from position_of 1 events ≡ true → ((r : RoomId) → IsValid (of_room r events))
+pub found_are : FirstsAreOfRoom → (room : RoomId) (events : List Event) (front : ℕ) → stand_from position_of 1 events ≡ true → ((r : RoomId) → IsValid (of_room r events))
     → AllByRecursion (λ (v : Event). is_found events front v ≡ is_redacted (of_room room events) v front) (between position_of 0 front (of_room room events))
-found_are room events front placed valid =
+found_are firsts room events front placed valid =
     let es = of_room room events in
     AllByRecursion-filter (λ (v : Event). is_found events front v ≡ is_redacted es v front) (λ (e : Event). nat_lt 0 e.id.at && nat_le e.id.at front) es
     (AllByRecursion-weaker (λ (v : Event). (same_room v.room room ≡ true) × (at_position events v.id.at ≡ Some v)) (λ (v : Event). is_found events front v ≡ is_redacted es v front)
-    (λ v h. ap is_some (firsts_are events placed valid v h.1 front) ∙ some_first (λ e. names e v.id.at) (between position_of v.id.at front (of_room v.room events))
+    (λ v h. ap is_some (firsts events placed valid v h.1 front) ∙ some_first (λ e. names e v.id.at) (between position_of v.id.at front (of_room v.room events))
     ∙ ap (λ r. is_redacted (of_room r events) v front) (room_same v.room room h.0)) es
     (AllByRecursion-both (λ (v : Event). same_room v.room room ≡ true) (λ (v : Event). at_position events v.id.at ≡ Some v) es
     (AllByRecursion-passed (λ (e : Event). same_room e.room room) events)
-    (AllByRecursion-filter (λ (v : Event). at_position events v.id.at ≡ Some v) (λ (e : Event). same_room e.room room) events (all_found position_of events placed))))
+    (AllByRecursion-filter (λ (v : Event). at_position events v.id.at ≡ Some v) (λ (e : Event). same_room e.room room) events (all_found events placed))))
 
 -- the walk over a room's events counts its unread ones
-pub counts_are : (says : Says) (user : List ℕ) (room : RoomId) (events : List Event) (front mark : ℕ) → stand_from position_of 1 events ≡ true → ((r : RoomId) → IsValid (of_room r events))
+pub counts_are : FirstsAreOfRoom → (says : Says) (user : List ℕ) (room : RoomId) (events : List Event) (front mark : ℕ) → stand_from position_of 1 events ≡ true → ((r : RoomId) → IsValid (of_room r events))
     → tallied says user (is_found events front) mark [] no_counts (sights user (of_room room events) front (between position_of 0 front (of_room room events)))
     ≡ counts_by says user (of_room room events) front mark
-counts_are says user room events front mark placed valid =
-    tallied_is says user (is_found events front) front mark (of_room room events) (room_ascends room events placed) (found_are room events front placed valid)
+counts_are firsts says user room events front mark placed valid =
+    tallied_is says user (is_found events front) front mark (of_room room events) (room_ascends room events placed) (found_are firsts room events front placed valid)

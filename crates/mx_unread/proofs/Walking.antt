@@ -1,13 +1,17 @@
 -- The steps of the walk that counts.
 use Rattle.std.proofs.Common.{◌≡◌, ℕ, zero, suc, ◌<◌, ◌≤◌, ◌+◌, ◌-◌, Bool, true, false, List, [], ◌∷◌, ◌++◌, length, take, drop, map, get_or, Option, Some, None, refl, ap, ap₂, sym, subst, ◌∙◌, arith}
 use Rattle.std.proofs.lemmas.List.{drop_more, take_more}
+use Rattle.mx_ids.specs.Ids.{room_id_text}
+use Rattle.mx_ids.specs.User.{server_of}
 use Rattle.mx_ids.specs.declared.room_id.RoomId.{RoomId}
 use Rattle.mx_window.specs.Windows.{Ascends, between, stand_from}
 use Rattle.mx_event.specs.Lawful.{of_room}
+use Rattle.mx_event.specs.Valid.{IsValid}
 use Rattle.mx_window.proofs.Each.{map-map}
 use Rattle.mx_event.specs.Shown.{position_of}
 use Rattle.mx_event.specs.declared.event.Event.{Event}
 use Rattle.mx_folding.specs.Visible.{is_visible}
+use Rattle.mx_snapshot.specs.FirstRedactions.{FirstsAreOfRoom}
 use Rattle.mx_push.specs.Notifies.{notifies}
 use Rattle.mx_rules.specs.Rules.{Rules, rules_of}
 use Rattle.mx_view.specs.Readings.{viewer_of}
@@ -15,13 +19,13 @@ use Rattle.mx_visible.specs.Walks.{all_sighted, sighted, sights}
 use Rattle.mx_visible.specs.declared.sights.Sighted.{Sighted}
 use Rattle.mx_unread.specs.Deciding.{HasTaken, TakesNext, is_joined_by, setting_in, was_joined}
 use Rattle.mx_unread.specs.Tallies.{added, is_found, judged, no_counts, tallied}
-use Rattle.mx_unread.specs.Unread.{says_of}
+use Rattle.mx_unread.specs.Unread.{counts_by, says_of}
 use Rattle.mx_unread.specs.declared.unread_counts.Counts.{Counts}
 use Rattle.mx_unread.specs.declared.decider.Decider.{Decider}
 use Rattle.mx_visible.proofs.LastJoin.{room_ascends}
 use Rattle.mx_unread.proofs.Joining.{change_most}
 use Rattle.mx_unread.proofs.Taking.{says_is, taken_next}
-use Rattle.mx_unread.proofs.Tallying.{past_is}
+use Rattle.mx_unread.proofs.Tallying.{counts_are, past_is}
 
 -- the events of a stretch
 abbrev pub events_of : List Sighted → List Event
@@ -124,3 +128,47 @@ walked_more events front mark seen first i old new c d s said placed is low here
       omega (arith, notifications, old_notifications),
       omega (arith, highlights, old_highlights),
     )
+
+-- the walk begins
+pub walked_none : (events : List Event) (front mark : ℕ) (seen : List Sighted) (first : Decider) (c : Counts) → c ≡ no_counts
+    → HasTaken first (rules_of first.rules) first.room.now first.user.now [] → HasWalked events front mark seen first 0 first c
+walked_none events front mark seen first c none has =
+    let joined : first.joined ≡ 0 = has.joined_is in
+    let notifications : c.notifications ≡ 0 = ap (λ (n : Counts). n.notifications) none in
+    let highlights : c.highlights ≡ 0 = ap (λ (n : Counts). n.highlights) none in (
+      has,
+      ap (λ (n : Counts). tallied (says_of (rules_of first.rules) first.room.now first.user.now) first.user.now (is_found events front) mark [] n (all_sighted seen)) none,
+      omega (arith, joined),
+      omega (arith, notifications),
+      omega (arith, highlights),
+    )
+
+-- ---- a decider of its own rules, room and user
+
+pub taken_own : (d : Decider) (rules : Rules) (room : RoomId) (user : List ℕ) → HasTaken d rules room user [] → HasTaken d (rules_of d.rules) d.room.now d.user.now []
+taken_own d rules room user has = record {
+  rules_are = refl;
+  room_is = refl;
+  user_is = refl;
+  text_is = has.text_is ∙ ap₂ (λ u r. room_id_text (server_of u) r) (sym has.user_is) (sym has.room_is);
+  taken = has.taken;
+  own_is = has.own_is;
+  joined_is = has.joined_is;
+}
+
+pub seen_own : (d : Decider) (rules : Rules) (room : RoomId) (user : List ℕ) (events : List Event) (front : ℕ) (seen : List Sighted) → HasTaken d rules room user []
+    → all_sighted seen ≡ sights user (of_room room events) front (between position_of 0 front (of_room room events))
+    → all_sighted seen ≡ sights d.user.now (of_room d.room.now events) front (between position_of 0 front (of_room d.room.now events))
+seen_own d rules room user events front seen has is =
+    is ∙ ap₂ (λ u r. sights u (of_room r events) front (between position_of 0 front (of_room r events))) (sym has.user_is) (sym has.room_is)
+
+-- the walk counts what is unread
+pub counted : FirstsAreOfRoom → (d : Decider) (rules : Rules) (room : RoomId) (user : List ℕ) (events : List Event) (front mark : ℕ) (seen : List Sighted) (c : Counts) → HasTaken d rules room user []
+    → stand_from position_of 1 events ≡ true → ((r : RoomId) → IsValid (of_room r events))
+    → all_sighted seen ≡ sights user (of_room room events) front (between position_of 0 front (of_room room events))
+    → c ≡ tallied (says_of (rules_of d.rules) d.room.now d.user.now) d.user.now (is_found events front) mark [] no_counts (all_sighted seen)
+    → c ≡ counts_by (says_of rules room user) user (of_room room events) front mark
+counted firsts d rules room user events front mark seen c has placed valid seen_is is =
+    is
+    ∙ (λ i. tallied (says_of (has.rules_are i) (has.room_is i) (has.user_is i)) (has.user_is i) (is_found events front) mark [] no_counts (seen_is i))
+    ∙ counts_are firsts (says_of rules room user) user room events front mark placed valid

@@ -19,7 +19,7 @@ use crate::stored_rules::rules_at;
 use crate::unread_counts::Counts;
 use mx_ids::{Memory, RoomId, SyncToken, UserId};
 use mx_push::Notify;
-use mx_snapshot::{Events, Snapshot};
+use mx_snapshot::{Events, Snapshot, first_redactions_are};
 use mx_visible::{Sighted, sight};
 use std::alloc::Global;
 
@@ -37,6 +37,7 @@ pub fn counts(
     ensures { IfOk result (λ c. c ≡ counts_at room.now user.now snapshot.now.events snapshot.now.receipts snapshot.now.accounts at.now) }
 {
     let _front = snapshot.events.front();
+    first_redactions_are();
     let mark = mark_of(alloc, snapshot, room, user, at)?;
     let rules = rules_at(alloc, &snapshot.accounts, user, at.a)?;
     let mut decider = Decider::new(alloc, rules, user, room)?;

@@ -10,4 +10,6 @@ mod others;
 #[cfg(test)]
 mod reads;
 #[cfg(test)]
+mod rests;
+#[cfg(test)]
 mod scans;
