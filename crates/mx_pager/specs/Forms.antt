@@ -1,7 +1,7 @@
 -- The reply to GET /rooms/{roomId}/messages (Client-Server API, Getting events for a room).
 use Rattle.std.specs.Prelude.{ℕ, true, List, [], ◌∷◌, ◌++◌, map, Option, option_map, codes}
 use Rattle.std.specs.Option.{option_to_list}
-use Rattle.mx_ids.specs.Ids.{sync_text}
+use Rattle.mx_ids.specs.Sync.{sync_text}
 use Rattle.mx_ids.specs.Page.{page_text}
 use Rattle.mx_ids.specs.declared.page_token.PageToken.{PageToken}
 use Rattle.mx_json.specs.declared.value.Json.{Json}
@@ -10,7 +10,7 @@ use Rattle.mx_event.specs.Forms.{client_form, member, member_if}
 use Rattle.mx_event.specs.declared.event.Shown.{Shown}
 use Rattle.mx_pager.specs.declared.asked.Bound.{Bound}
 use Rattle.mx_pager.specs.declared.asked.Bound.TheVariants as bound
-use Rattle.mx_pager.specs.declared.page.Page.{Page}
+use Rattle.mx_pager.specs.declared.sent.Page.{Page}
 
 abbrev pub bound_text : Bound → List ℕ
 bound_text (bound.Sync t) = sync_text t

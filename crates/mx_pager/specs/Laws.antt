@@ -14,7 +14,7 @@ use Rattle.mx_pager.specs.Pages.{page_of}
 use Rattle.mx_pager.specs.declared.asked.Bound.{Bound}
 use Rattle.mx_pager.specs.declared.asked.Bound.TheVariants as bound
 use Rattle.mx_pager.specs.declared.asked.PageAsk.{PageAsk}
-use Rattle.mx_pager.specs.declared.page.Page.{Page}
+use Rattle.mx_pager.specs.declared.sent.Page.{Page}
 
 abbrev pub events_shown : List Shown → List Event
 events_shown shown = map (λ (s : Shown). s.event) shown

@@ -1,6 +1,6 @@
 //! What a page is asked for.
 
-ghost use Rattle.std.specs.Prelude.{◌≡◌, option_or, option_and_then};
+ghost use Rattle.std.specs.Prelude.{◌≡◌, option_and_then, option_map, unwrap_or};
 ghost use Rattle.mx_pager.specs.Asks as ask;
 
 use mx_filter::Filter;
@@ -29,13 +29,6 @@ pub struct PageAsk<'a> {
     pub filter: &'a Filter,
 }
 
-/// A component of a token that exceeds the front of its stream.
-#[derive(Clone, Copy, Debug, PartialEq, Eq)]
-pub(crate) struct Ahead {
-    pub(crate) asked: u64,
-    pub(crate) front: u64,
-}
-
 impl Bound {
     /// The position behind which the place lies.
     pub(crate) fn place(&self) -> u64
@@ -58,8 +51,54 @@ impl Bound {
     }
 }
 
-/// The first component of the bounds, those of `from` first, that exceeds its stream's front.
-pub(crate) fn ahead(snapshot: &Snapshot, ask: &PageAsk<'_>) -> Option<Ahead>
+impl PageAsk<'_> {
+    /// Where the page begins, where the front of events is this.
+    pub(crate) fn start(&self, front: u64) -> Bound
+        ensures { result ≡ ask.start_of front self.now }
+    {
+        match self.from {
+            Some(bound) => bound,
+            None => Bound::Page(PageToken {
+                at: if self.backward { front } else { 0 },
+                e: front,
+            }),
+        }
+    }
+
+    /// The lower bound.
+    pub(crate) fn low(&self, front: u64) -> u64
+        ensures { result ≡ ask.low_of front self.now }
+    {
+        if self.backward {
+            self.to_or(0)
+        } else {
+            self.start(front).place()
+        }
+    }
+
+    /// The upper bound.
+    pub(crate) fn high(&self, front: u64) -> u64
+        ensures { result ≡ ask.high_of front self.now }
+    {
+        if self.backward {
+            self.start(front).place()
+        } else {
+            self.to_or(front)
+        }
+    }
+
+    fn to_or(&self, end: u64) -> u64
+        ensures { result ≡ unwrap_or (option_map ask.place_of self.now.to) end }
+    {
+        match self.to {
+            Some(bound) => bound.place(),
+            None => end,
+        }
+    }
+}
+
+/// The first component of the bounds, those of `from` first, that exceeds its stream's front, with that front.
+pub(crate) fn ahead(snapshot: &Snapshot, ask: &PageAsk<'_>) -> Option<(u64, u64)>
     ensures { result ≡ ask.asks_ahead snapshot.now ask.now }
 {
     match bound_ahead(snapshot, &ask.from) {
@@ -68,7 +107,7 @@ pub(crate) fn ahead(snapshot: &Snapshot, ask: &PageAsk<'_>) -> Option<Ahead>
     }
 }
 
-fn bound_ahead(snapshot: &Snapshot, bound: &Option<Bound>) -> Option<Ahead>
+fn bound_ahead(snapshot: &Snapshot, bound: &Option<Bound>) -> Option<(u64, u64)>
     ensures { result ≡ option_and_then (ask.ahead_of snapshot.now) bound.now }
 {
     match bound {
@@ -78,7 +117,7 @@ fn bound_ahead(snapshot: &Snapshot, bound: &Option<Bound>) -> Option<Ahead>
     }
 }
 
-fn token_ahead(snapshot: &Snapshot, token: &SyncToken) -> Option<Ahead>
+fn token_ahead(snapshot: &Snapshot, token: &SyncToken) -> Option<(u64, u64)>
     ensures { result ≡ ask.token_ahead snapshot.now token.now }
 {
     if let Some(ahead) = exceeds(token.e, snapshot.events.front()) {
@@ -93,11 +132,11 @@ fn token_ahead(snapshot: &Snapshot, token: &SyncToken) -> Option<Ahead>
     exceeds(token.d, 0)
 }
 
-fn exceeds(asked: u64, front: u64) -> Option<Ahead>
+fn exceeds(asked: u64, front: u64) -> Option<(u64, u64)>
     ensures { result ≡ ask.exceeds asked front }
 {
     if front < asked {
-        Some(Ahead { asked, front })
+        Some((asked, front))
     } else {
         None
     }

@@ -2,16 +2,18 @@
 #![tactic(auto)]
 
 mod asked;
+mod choosing;
 mod fault;
 mod forms;
-mod forward;
 mod laws;
 mod members;
-mod page;
+mod paging;
 mod seeing;
+mod sent;
 
 pub use asked::{Bound, PageAsk};
 pub use fault::PageFault;
 pub use forms::page_form;
 pub use laws::pages_are;
-pub use page::{Page, page};
+pub use paging::page;
+pub use sent::Page;

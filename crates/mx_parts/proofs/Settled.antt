@@ -22,7 +22,7 @@ length-last : {A : Type 0} (n : ℕ) (xs : List A) → length (last n xs) < leng
 length-last n xs h = let is : length (last n xs) ≡ length xs - (length xs - n) = length-drop (length xs - n) xs in omega (arith, h, is)
 
 module _ {E K : Type 0} (r : Room E K) (es : List E) (front : ℕ) (up : Ascends r.at 0 es) where
-  split : (low mid high : ℕ) → low ≤ mid → mid ≤ high → sendable r es front low high ≡ sendable r es front low mid ++ sendable r es front mid high
+  pub split : (low mid high : ℕ) → low ≤ mid → mid ≤ high → sendable r es front low high ≡ sendable r es front low mid ++ sendable r es front mid high
   split low mid high h k =
       ap (filter (r.sends front)) (between-split r.at low mid high 0 es up h k)
       ∙ filter-append (r.sends front) (between r.at low mid es) (between r.at mid high es)

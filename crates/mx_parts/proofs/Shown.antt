@@ -100,7 +100,7 @@ module _ (v : Reading) (placed : stand_from position_of 1 v.events.now ≡ true)
       AllByRecursion-filter (IsListed v) (λ d. names d e.id.at) (between position_of e.id.at front (events_of v))
       (AllByRecursion-filter (IsListed v) (λ (d : Event). nat_lt e.id.at d.id.at && nat_le d.id.at front) (events_of v) room_listed)
 
-  sendable_listed : (low high : ℕ) → AllByRecursion (IsListed v) (sendable (room_in v) (events_of v) (front_of v) low high)
+  pub sendable_listed : (low high : ℕ) → AllByRecursion (IsListed v) (sendable (room_in v) (events_of v) (front_of v) low high)
   sendable_listed low high =
       AllByRecursion-filter (IsListed v) ((room_in v).sends (front_of v)) (between position_of low high (events_of v))
       (AllByRecursion-filter (IsListed v) (λ (d : Event). nat_lt low d.id.at && nat_le d.id.at high) (events_of v) room_listed)
@@ -111,13 +111,16 @@ module _ (v : Reading) (placed : stand_from position_of 1 v.events.now ≡ true)
       AllByRecursion-drop (IsListed v) (length (sendable (room_in v) (events_of v) (front_of v) low w.high) - w.limit)
       (sendable (room_in v) (events_of v) (front_of v) low w.high) (sendable_listed low w.high)
 
+  pub states_listed : (q : ℕ) → AreListed v (state_list (room_in v) (events_of v) q)
+  states_listed q =
+      AllByRecursion-filter (IsListed v) (is_state (room_in v)) (current (sets_same (room_in v)) (between position_of 0 q (events_of v)))
+      (AllByRecursion-current (IsListed v) (sets_same (room_in v)) (between position_of 0 q (events_of v))
+      (AllByRecursion-filter (IsListed v) (λ (d : Event). nat_lt 0 d.id.at && nat_le d.id.at q) (events_of v) room_listed))
+
   pub state_listed : (pick : Event → Bool) (q : ℕ) → AreListed v (state_part v pick q)
   state_listed pick q =
       AllByRecursion-filter (IsListed v) pick (filter (is_kept (room_in v)) (state_list (room_in v) (events_of v) q))
-      (AllByRecursion-filter (IsListed v) (is_kept (room_in v)) (state_list (room_in v) (events_of v) q)
-      (AllByRecursion-filter (IsListed v) (is_state (room_in v)) (current (sets_same (room_in v)) (between position_of 0 q (events_of v)))
-      (AllByRecursion-current (IsListed v) (sets_same (room_in v)) (between position_of 0 q (events_of v))
-      (AllByRecursion-filter (IsListed v) (λ (d : Event). nat_lt 0 d.id.at && nat_le d.id.at q) (events_of v) room_listed))))
+      (AllByRecursion-filter (IsListed v) (is_kept (room_in v)) (state_list (room_in v) (events_of v) q) (states_listed q))
 
 -- the room of a listed event
 pub own_room : (v : Reading) (e : Event) → IsListed v e → of_room e.room v.events.now ≡ events_of v

@@ -1,0 +1,5 @@
+pub mod Choosing
+pub mod Members
+pub mod Paging
+pub mod Same
+pub mod Seeing
