@@ -96,11 +96,8 @@ fn read_page(alloc: Global, reading: &Reading<'_>, ask: &PageAsk<'_>) -> Result<
 fn members_at(ask: &PageAsk<'_>, front: u64) -> u64
     ensures { result ≡ sent.members_at front ask.now }
 {
-    if ask.backward {
-        ask.start(front).cut()
-    } else {
-        front
-    }
+    let start = ask.start(front);
+    if ask.backward { start.cut() } else { front }
 }
 
 fn in_order<'a>(backward: bool, events: Vec<&'a Event>) -> Vec<&'a Event>
