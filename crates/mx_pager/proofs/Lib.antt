@@ -1,5 +1,6 @@
-pub mod Choosing
-pub mod Members
-pub mod Paging
+pub mod Firsts
+pub mod Named
 pub mod Same
-pub mod Seeing
+pub mod Turned
+pub mod Upper
+pub mod Whole

@@ -1,6 +1,6 @@
 -- A backward page of a gap is the page that the folding law speaks of.
 use Rattle.std.proofs.Common.{◌≡◌, ℕ, ◌++◌, ◌-◌, Bool, true, false, cond, nat_lt, List, [], ◌∷◌, Option, Some, None, option_map, is_some, unwrap_or, map, reverse, length, refl, ap, ap₂, sym, ◌∙◌}
-use Rattle.std.proofs.lemmas.List.{map-append, reverse-reverse}
+use Rattle.std.proofs.lemmas.List.{reverse-reverse}
 use Rattle.mx_ids.specs.User.{server_of}
 use Rattle.mx_ids.specs.declared.page_token.PageToken.{PageToken}
 use Rattle.mx_ids.specs.declared.sync_token.SyncToken.{SyncToken}
@@ -22,16 +22,13 @@ use Rattle.mx_fold.specs.Replies as reply
 use Rattle.mx_view.specs.Rooms.{Key, Sieve, room_of}
 use Rattle.mx_view.specs.Shows.{shown_for}
 use Rattle.mx_view.proofs.Pictured.{same_shown}
+use Rattle.mx_pager.proofs.Turned.{map_reverse}
 use Rattle.mx_pager.specs.Asks.{place_of}
 use Rattle.mx_pager.specs.Laws.{AsksGap, PagesAre, events_shown, page_from}
 use Rattle.mx_pager.specs.Pages.{page_in, page_of, shown_at}
 use Rattle.mx_pager.specs.declared.asked.Bound.{Bound}
 use Rattle.mx_pager.specs.declared.asked.Bound.TheVariants as bound
 use Rattle.mx_pager.specs.declared.asked.PageAsk.{PageAsk}
-
-map_reverse : {A B : Type 0} (f : A → B) (xs : List A) → map f (reverse xs) ≡ reverse (map f xs)
-map_reverse f [] = refl
-map_reverse f (x ∷ xs) = map-append f (reverse xs) (x ∷ []) ∙ ap (λ l. l ++ f x ∷ []) (map_reverse f xs)
 
 is_some_if : {A : Type 0} (b : Bool) (x : A) → is_some (cond b (Some x) None) ≡ b
 is_some_if true x = refl
@@ -84,7 +81,7 @@ module _ (f : Sieve) (user : List ℕ) (es : List Event) (front : ℕ) where
           end = cond more (Some (record { at = before_first position_of upper sent; e = cut })) None;
           members = cond r.lazy (Some (shown_at user es front (members_of r es cut sent))) None;
         }) ≡ parts.page_of r es limit front (gap_at lower upper cut)
-    folded start = λ i. record { more = is_some_if more (record { at = before_first position_of upper sent; e = cut }) i; end = ends i; members = members r.lazy i; sent = in_order sent i }
+    folded start = λ i. record { more = is_some_if {A = PageToken} more (record { at = before_first position_of upper sent; e = cut }) i; end = ends i; members = members r.lazy i; sent = in_order sent i }
 
 lower_is : (to : Option SyncToken) → unwrap_or (option_map place_of (option_map bound.Sync to)) 0 ≡ reply.to_at to
 lower_is None = refl

@@ -1,7 +1,7 @@
 //! What a page is asked for.
 
 ghost use Rattle.std.specs.Prelude.{◌≡◌, option_and_then, option_map, unwrap_or};
-ghost use Rattle.mx_pager.specs.Asks as ask;
+ghost use Rattle.mx_pager.specs.Asks as bounds;
 
 use mx_filter::Filter;
 use mx_ids::{PageToken, RoomId, SyncToken};
@@ -32,7 +32,7 @@ pub struct PageAsk<'a> {
 impl Bound {
     /// The position behind which the place lies.
     pub(crate) fn place(&self) -> u64
-        ensures { result ≡ ask.place_of self.now }
+        ensures { result ≡ bounds.place_of self.now }
     {
         match self {
             Bound::Sync(token) => token.e,
@@ -42,7 +42,7 @@ impl Bound {
 
     /// The front of events at which the list was read.
     pub(crate) fn cut(&self) -> u64
-        ensures { result ≡ ask.cut_of self.now }
+        ensures { result ≡ bounds.cut_of self.now }
     {
         match self {
             Bound::Sync(token) => token.e,
@@ -54,7 +54,7 @@ impl Bound {
 impl PageAsk<'_> {
     /// Where the page begins, where the front of events is this.
     pub(crate) fn start(&self, front: u64) -> Bound
-        ensures { result ≡ ask.start_of front self.now }
+        ensures { result ≡ bounds.start_of front self.now }
     {
         match self.from {
             Some(bound) => bound,
@@ -67,7 +67,7 @@ impl PageAsk<'_> {
 
     /// The lower bound.
     pub(crate) fn low(&self, front: u64) -> u64
-        ensures { result ≡ ask.low_of front self.now }
+        ensures { result ≡ bounds.low_of front self.now }
     {
         if self.backward {
             self.to_or(0)
@@ -78,7 +78,7 @@ impl PageAsk<'_> {
 
     /// The upper bound.
     pub(crate) fn high(&self, front: u64) -> u64
-        ensures { result ≡ ask.high_of front self.now }
+        ensures { result ≡ bounds.high_of front self.now }
     {
         if self.backward {
             self.start(front).place()
@@ -88,7 +88,7 @@ impl PageAsk<'_> {
     }
 
     fn to_or(&self, end: u64) -> u64
-        ensures { result ≡ unwrap_or (option_map ask.place_of self.now.to) end }
+        ensures { result ≡ unwrap_or (option_map bounds.place_of self.now.to) end }
     {
         match self.to {
             Some(bound) => bound.place(),
@@ -99,7 +99,7 @@ impl PageAsk<'_> {
 
 /// The first component of the bounds, those of `from` first, that exceeds its stream's front, with that front.
 pub(crate) fn ahead(snapshot: &Snapshot, ask: &PageAsk<'_>) -> Option<(u64, u64)>
-    ensures { result ≡ ask.asks_ahead snapshot.now ask.now }
+    ensures { result ≡ bounds.asks_ahead snapshot.now ask.now }
 {
     match bound_ahead(snapshot, &ask.from) {
         Some(ahead) => Some(ahead),
@@ -108,7 +108,7 @@ pub(crate) fn ahead(snapshot: &Snapshot, ask: &PageAsk<'_>) -> Option<(u64, u64)
 }
 
 fn bound_ahead(snapshot: &Snapshot, bound: &Option<Bound>) -> Option<(u64, u64)>
-    ensures { result ≡ option_and_then (ask.ahead_of snapshot.now) bound.now }
+    ensures { result ≡ option_and_then (bounds.ahead_of snapshot.now) bound.now }
 {
     match bound {
         Some(Bound::Sync(token)) => token_ahead(snapshot, token),
@@ -118,7 +118,7 @@ fn bound_ahead(snapshot: &Snapshot, bound: &Option<Bound>) -> Option<(u64, u64)>
 }
 
 fn token_ahead(snapshot: &Snapshot, token: &SyncToken) -> Option<(u64, u64)>
-    ensures { result ≡ ask.token_ahead snapshot.now token.now }
+    ensures { result ≡ bounds.token_ahead snapshot.now token.now }
 {
     if let Some(ahead) = exceeds(token.e, snapshot.events.front()) {
         return Some(ahead);
@@ -133,7 +133,7 @@ fn token_ahead(snapshot: &Snapshot, token: &SyncToken) -> Option<(u64, u64)>
 }
 
 fn exceeds(asked: u64, front: u64) -> Option<(u64, u64)>
-    ensures { result ≡ ask.exceeds asked front }
+    ensures { result ≡ bounds.exceeds asked front }
 {
     if front < asked {
         Some((asked, front))

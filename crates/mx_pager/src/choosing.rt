@@ -93,8 +93,23 @@ fn first_between<'a>(
         }
         most = most.saturating_mul(4);
     }
+    first_of_all(alloc, reading, limit, low, high)
+}
+
+fn first_of_all<'a>(
+    alloc: Global,
+    reading: &Reading<'a>,
+    limit: u64,
+    low: u64,
+    high: u64,
+) -> Result<Chosen<'a>, Memory>
+    requires { IsRead reading.now }
+    ensures events { IfOk result (λ made. all_now made.events.items ≡ take limit (sections.sendable (room_in reading.now) (events_of reading.now) (front_of reading.now) low high)) }
+    ensures more { IfOk result (λ made. made.more ≡ nat_lt (length (take limit (sections.sendable (room_in reading.now) (events_of reading.now) (front_of reading.now) low high))) (length (sections.sendable (room_in reading.now) (events_of reading.now) (front_of reading.now) low high))) }
+{
     let made = sendable(alloc, reading, low, high)?;
-    Ok(first_of(made, limit))
+    let first = first_of(made, limit);
+    Ok(first)
 }
 
 fn stretch_end(low: u64, most: u64, high: u64) -> u64
@@ -111,8 +126,8 @@ fn is_settled(made: &[&Event], limit: u64, until: u64, high: u64) -> bool
 }
 
 fn first_of<'a>(made: Vec<&'a Event>, limit: u64) -> Chosen<'a>
-    ensures events { all_now result.events.items ≡ take limit (all_now made.items) }
-    ensures more { result.more ≡ nat_lt limit (length (all_now made.items)) }
+    ensures events { all_now result.events.items ≡ take limit (all_now made.entry.items) }
+    ensures more { result.more ≡ nat_lt limit (length (all_now made.entry.items)) }
 {
     let more = is_longer(&made, limit);
     let mut events = made;

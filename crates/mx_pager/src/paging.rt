@@ -96,21 +96,19 @@ fn read_page(alloc: Global, reading: &Reading<'_>, ask: &PageAsk<'_>) -> Result<
 fn members_at(ask: &PageAsk<'_>, front: u64) -> u64
     ensures { result ≡ sent.members_at front ask.now }
 {
-    if ask.backward {
-        ask.start(front).cut()
-    } else {
-        front
-    }
+    let start = ask.start(front);
+    if ask.backward { start.cut() } else { front }
 }
 
 fn in_order<'a>(backward: bool, events: Vec<&'a Event>) -> Vec<&'a Event>
-    ensures { all_now result.items ≡ cond backward (reverse (all_now events.items)) (all_now events.items) }
+    ensures { all_now result.items ≡ cond backward (reverse (all_now events.entry.items)) (all_now events.entry.items) }
 {
     if backward { reversed(events) } else { events }
 }
 
+#[tactic(auto, using(crate::proofs::Turned::reverse_now))]
 fn reversed<'a>(events: Vec<&'a Event>) -> Vec<&'a Event>
-    ensures { all_now result.items ≡ reverse (all_now events.items) }
+    ensures { all_now result.items ≡ reverse (all_now events.entry.items) }
 {
     let mut made = events;
     made.reverse();

@@ -30,6 +30,14 @@ pub(crate) fn sees_room(alloc: Global, reading: &Reading<'_>) -> Result<bool, Me
         }
         most = most.saturating_mul(4);
     }
+    sees_any(alloc, reading, front)
+}
+
+fn sees_any(alloc: Global, reading: &Reading<'_>, front: u64) -> Result<bool, Memory>
+    requires { front ≡ front_of reading.now }
+    ensures { IfOk result (λ b. b ≡ sent.sees reading.now.user.now (events_of reading.now) (front_of reading.now)) }
+{
+    let _front = reading.events.front();
     let seen = sees_after(alloc, reading, 0, front)?;
     Ok(seen)
 }

@@ -1,6 +1,6 @@
 -- What is put together is the page.
 use Rattle.std.proofs.Common.{◌≡◌, ℕ, ◌++◌, Bool, true, false, cond, List, [], ◌∷◌, Option, Some, None, take, drop, reverse, length, refl, ap, ap₂, subst, sym, ◌∙◌}
-use Rattle.std.proofs.lemmas.List.{take-append-drop, map-append}
+use Rattle.std.proofs.lemmas.List.{take-append-drop}
 use Rattle.std.specs.Borrow.{Bor}
 use Rattle.std.specs.List.{AllByRecursion}
 use Rattle.mx_ids.specs.declared.page_token.PageToken.{PageToken}
@@ -15,20 +15,12 @@ use Rattle.mx_parts.specs.Readings.{events_of, front_of, room_in}
 use Rattle.mx_parts.specs.Sections.{AreListed, IsListed}
 use Rattle.mx_parts.specs.declared.reading.Reading.{Reading}
 use Rattle.mx_parts.proofs.Shown.{section_listed, sendable_listed}
-use Rattle.mx_snapshot.specs.Looks.{all_now}
+use Rattle.mx_pager.proofs.Turned.{reverse_each}
 use Rattle.mx_pager.specs.Asks.{high_of, low_of, start_of}
 use Rattle.mx_pager.specs.Pages.{chosen_between, has_more_between, members_at, next_place, page_in, shown_at}
 use Rattle.mx_pager.specs.declared.asked.Bound.{Bound}
 use Rattle.mx_pager.specs.declared.asked.PageAsk.{PageAsk}
 use Rattle.mx_pager.specs.declared.sent.Page.{Page}
-
-pub reverse_now : (xs : List (Bor Event)) → all_now (reverse xs) ≡ reverse (all_now xs)
-reverse_now [] = refl
-reverse_now (x ∷ xs) = map-append (λ (b : Bor Event). b.now) (reverse xs) (x ∷ []) ∙ ap (λ l. l ++ x.now ∷ []) (reverse_now xs)
-
-reverse_each : (P : Event → Type 0) (xs : List Event) → AllByRecursion P xs → AllByRecursion P (reverse xs)
-reverse_each P [] all = tt
-reverse_each P (x ∷ xs) all = AllByRecursion-append P (reverse xs) (x ∷ []) (reverse_each P xs all.1) (all.0, tt)
 
 module _ (v : Reading) (ask : PageAsk) where
   pub chosen_listed : stand_from position_of 1 v.events.now ≡ true → (low high : ℕ) → AreListed v (chosen_between (room_in v) (events_of v) (front_of v) ask low high)

@@ -5,7 +5,11 @@ use Rattle.std.specs.BTreeSet.{BTreeSet}
 use Rattle.std.specs.Cmp.Lexicographic.{nat_list_eq_equiv}
 use Rattle.std.specs.List.{list_any}
 use Rattle.std.specs.Str.{bytes_eq}
-use Rattle.mx_window.proofs.Each.{filter-same, AllByRecursion-every}
+use Rattle.mx_window.proofs.Each.{filter-same, AllByRecursion-every, AllByRecursion-filter}
+use Rattle.mx_window.specs.Windows.{stand_from}
+use Rattle.mx_event.specs.Shown.{position_of}
+use Rattle.mx_parts.specs.Sections.{AreListed, IsListed}
+use Rattle.mx_parts.proofs.Shown.{states_listed}
 use Rattle.mx_event.specs.Kinds.{is_of, member_type}
 use Rattle.mx_event.specs.declared.event.Event.{Event}
 use Rattle.mx_folding.specs.Parts.{is_sender, members_of, state_list}
@@ -57,3 +61,8 @@ module _ (v : Reading) (senders : BTreeSet (List ℕ)) (sent : List Event) (have
       (AllByRecursion-every
       (λ (e : Event). (is_of member_type e && has_key senders e.state_key) ≡ (key_is (room_in v).member (key_of e) && key_is (is_sender (room_in v) sent) (key_of e)))
       (λ e. by_key e e.state_key refl) (state_list (room_in v) (events_of v) q))
+
+pub members_listed : (v : Reading) → stand_from position_of 1 v.events.now ≡ true → (q : ℕ) (sent : List Event) → AreListed v (members_of (room_in v) (events_of v) q sent)
+members_listed v placed q sent =
+    AllByRecursion-filter (IsListed v) (λ (e : Event). key_is (room_in v).member (key_of e) && key_is (is_sender (room_in v) sent) (key_of e))
+    (state_list (room_in v) (events_of v) q) (states_listed v placed q)

@@ -2,6 +2,8 @@
 use Rattle.std.proofs.Common.{◌≡◌, ℕ, zero, suc, ◌<◌, ◌≤◌, min, Bool, true, false, nat_lt, ◌==◌, ◌||◌, List, [], ◌∷◌, ◌++◌, filter, take, length, refl, ap, ap₂, sym, subst, ◌∙◌, inl, inr, arith}
 use Rattle.std.proofs.lemmas.Bool.{cases_lt, eqb-true, lt-ltb, le-ltb, ltb-true}
 use Rattle.std.proofs.lemmas.List.{length-append, length-take}
+use Rattle.std.specs.Borrow.{Bor}
+use Rattle.mx_snapshot.specs.Looks.{all_now}
 use Rattle.mx_window.specs.Windows.{Ascends, stand_from}
 use Rattle.mx_window.proofs.Intervals.{between-empty}
 use Rattle.mx_event.specs.Shown.{position_of}
@@ -14,6 +16,11 @@ take-front : {A : Type 0} (n : ℕ) (xs ys : List A) → n ≤ length xs → tak
 take-front zero xs ys h = refl
 take-front (suc n) [] ys h = let never : ⊥ = omega (arith, h) in absurd never
 take-front (suc n) (x ∷ xs) ys h = ap (λ l. x ∷ l) (take-front n xs ys (omega (arith, h)))
+
+pub take_now : (n : ℕ) (xs : List (Bor Event)) → all_now (take n xs) ≡ take n (all_now xs)
+take_now zero xs = refl
+take_now (suc n) [] = refl
+take_now (suc n) (x ∷ xs) = ap (λ l. x.now ∷ l) (take_now n xs)
 
 -- fewer are taken exactly where there are more
 pub take_less : {A : Type 0} (n : ℕ) (xs : List A) → nat_lt (length (take n xs)) (length xs) ≡ nat_lt n (length xs)

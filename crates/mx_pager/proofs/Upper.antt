@@ -17,6 +17,10 @@ use Rattle.mx_parts.specs.declared.reading.Reading.{Reading}
 use Rattle.mx_view.specs.Readings.{viewer_of}
 use Rattle.mx_visible.specs.Walks.{sights}
 
+pub or_true : (a : Bool) → (a || true) ≡ true
+or_true true = refl
+or_true false = refl
+
 whole_room : (room : RoomId) (events : List Event) → stand_from position_of 1 events ≡ true → between position_of 0 (length events) (of_room room events) ≡ of_room room events
 whole_room room events placed =
     filter-swap (λ (e : Event). nat_lt 0 e.id.at && nat_le e.id.at (length events)) (λ (e : Event). same_room e.room room) events
