@@ -8,4 +8,5 @@ pub mod Texts
 pub mod Sizes
 pub mod Whole
 pub mod ReadBack
+pub mod PlainKeys
 mod Dotted

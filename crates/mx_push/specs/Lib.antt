@@ -1,5 +1,6 @@
 pub mod Conditions
 pub mod Counts
+pub mod Laws
 pub mod Notifies
 pub mod Properties
 pub mod Settings

@@ -1,5 +1,5 @@
 -- The server by which replies are answered: mx_fold's, with the rest of a room as it is here.
-use Rattle.std.specs.Prelude.{◌≡◌, ℕ, true, List, [], ◌∷◌, ◌×◌, codes}
+use Rattle.std.specs.Prelude.{◌≡◌, ℕ, true, List, [], ◌∷◌, codes}
 use Rattle.mx_ids.specs.declared.room_id.RoomId.{RoomId}
 use Rattle.mx_json.specs.declared.value.Json.{Json}
 use Rattle.mx_event.specs.Lawful.{of_room}

@@ -1,16 +1,27 @@
 //! The rest of a room, by the streams that a snapshot has.
 
-ghost use Rattle.std.specs.Prelude.{◌≡◌, true, IfOk};
+ghost use Rattle.std.specs.Prelude.{◌≡◌, ◌≤◌, ◌||◌, true, length, take, is_some, IfOk};
+ghost use Rattle.mx_folding.specs.Parts.{is_cons};
 ghost use Rattle.mx_fold.specs.Lists.{fronts_of, upto};
-ghost use Rattle.mx_rest.specs.Rests.{delta_of, differs_of, view_of};
+ghost use Rattle.mx_rest.specs.Accounts.{account_in};
+ghost use Rattle.mx_rest.specs.Receipts.{shows};
+ghost use Rattle.mx_rest.specs.Rests.{delta_of, differs_of, news, view_of};
 ghost use Rattle.mx_rest.specs.Servers.{AreValid, lists_of};
 ghost use Rattle.mx_view.specs.Tokens.{is_before};
 
-use crate::room_view::{RoomDelta, RoomView};
-use mx_filter::Filter;
-use mx_ids::{Memory, RoomId, SyncToken, UserId};
+use crate::accounts::account_after;
+use crate::counting::{counts_differ, counts_now};
+use crate::receipts::{receipts_after, standing};
+use crate::room_view::{Change, RoomDelta, RoomView};
+use crate::summaries::{summary_change, summary_now};
+use mx_filter::{DataPart, Filter};
+use mx_ids::{Memory, RoomId, Seq, SyncToken, Text, UserId};
+use mx_json::Json;
 use mx_snapshot::Snapshot;
 use std::alloc::Global;
+
+/// The type of the event that has receipts (Client-Server API, Receipts).
+const RECEIPTS: &str = "m.receipt";
 
 /// A room as a user's filter reads the rest of it.
 #[derive(Clone, Copy)]
@@ -21,33 +32,74 @@ pub struct Rest<'a> {
     pub filter: &'a Filter,
 }
 
-/// A change of the rest of a room.
-#[derive(Debug, Drop)]
-pub struct Change {
-    pub delta: RoomDelta,
-    /// There is something to say: a receipt or account data came, or the counts or the summary aren't what they were.
-    pub differs: bool,
-}
-
-/// The rest of a room at the snapshot's fronts.
+/// The rest of a room at the snapshot's fronts. Each room's list is valid. Takes the time of the room's events and
+/// receipts, with some look-ups for each event, and of the user's account data.
 pub fn view(alloc: Global, rest: &Rest<'_>) -> Result<RoomView, Memory>
     requires valid { AreValid (lists_of rest.now.snapshot.now) }
     ensures { IfOk result (λ v. v ≡ view_of rest.now.user.now rest.now.filter.now.selection rest.now.room.now (lists_of rest.now.snapshot.now)) }
 {
-    let _alloc = alloc;
-    let _rest = rest;
-    Err(Memory)
+    let receipts = receipts_after(alloc, &rest.snapshot.receipts, rest.room, 0)?;
+    let standing = standing(alloc, &receipts, rest.user, shows(rest.filter))?;
+    let account = account_of(alloc, rest, 0)?;
+    let counts = counts_now(alloc, rest)?;
+    let summary = summary_now(alloc, rest)?;
+    Ok(RoomView {
+        receipts: standing,
+        account,
+        counts,
+        summary,
+    })
 }
 
-/// The change of the rest of a room from an earlier token, whose `b` says nothing here, to the snapshot's fronts.
+/// The change of the rest of a room from an earlier token, whose `b` says nothing here, to the snapshot's fronts. Each
+/// room's list is valid, and the token isn't ahead. Takes the time of the counts at the fronts, and of what came after
+/// the token; counts and summary at the token are computed only where they may differ.
 pub fn change(alloc: Global, rest: &Rest<'_>, since: &SyncToken) -> Result<Change, Memory>
     requires valid { AreValid (lists_of rest.now.snapshot.now) }
     requires behind { is_before since.now (fronts_of (lists_of rest.now.snapshot.now)) ≡ true }
     ensures delta { IfOk result (λ c. c.delta ≡ delta_of rest.now.user.now rest.now.filter.now.selection rest.now.room.now (upto since.now (lists_of rest.now.snapshot.now)) (lists_of rest.now.snapshot.now)) }
     ensures differs { IfOk result (λ c. c.differs ≡ differs_of rest.now.user.now rest.now.filter.now.selection rest.now.room.now (upto since.now (lists_of rest.now.snapshot.now)) (lists_of rest.now.snapshot.now)) }
 {
-    let _alloc = alloc;
-    let _rest = rest;
-    let _since = since;
-    Err(Memory)
+    let receipts = receipts_after(alloc, &rest.snapshot.receipts, rest.room, since.r)?;
+    let standing = standing(alloc, &receipts, rest.user, shows(rest.filter))?;
+    let account = account_of(alloc, rest, since.a)?;
+    let counts = counts_now(alloc, rest)?;
+    let counted = counts_differ(alloc, rest, since, &receipts, counts)?;
+    let summary = summary_change(alloc, rest, since)?;
+    let delta = RoomDelta {
+        receipts: standing,
+        account,
+        counts,
+        summary,
+    };
+    let differs = says(&delta, counted);
+    Ok(Change { delta, differs })
+}
+
+/// There is something to say: the counts differ, or one of the others is there.
+fn says(delta: &RoomDelta, counted: bool) -> bool
+    ensures { result ≡ (is_cons delta.now.receipts || (is_cons delta.now.account || (counted || is_some delta.now.summary))) }
+{
+    !delta.receipts.is_empty() || !delta.account.is_empty() || counted || delta.summary.is_some()
+}
+
+/// Whether a filter passes receipts.
+fn shows(filter: &Filter) -> bool
+    ensures { result ≡ shows filter.now.selection }
+{
+    filter.passes_type(DataPart::Ephemeral, RECEIPTS)
+}
+
+fn account_of(alloc: Global, rest: &Rest<'_>, low: u64) -> Result<Seq<(Text, Json)>, Memory>
+    requires { low ≤ length rest.now.snapshot.now.accounts }
+    ensures { IfOk result (λ made. made ≡ account_in rest.now.filter.now.selection rest.now.user.now rest.now.room.now (news (take low rest.now.snapshot.now.accounts) rest.now.snapshot.now.accounts)) }
+{
+    account_after(
+        alloc,
+        &rest.snapshot.accounts,
+        rest.filter,
+        rest.user,
+        rest.room,
+        low,
+    )
 }

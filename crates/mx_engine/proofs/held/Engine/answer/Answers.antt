@@ -64,4 +64,4 @@ pub returns-in-Unban-clause-made : goal.returns-in-Unban-clause-made
 returns-in-Unban-clause-made g c = rw c.in-Unban.is (c.send-in-Unban.ensures.made _ c.unban_aim-aim.ensures.aimed)
 
 pub returns-in-PutAccount-clause-made : goal.returns-in-PutAccount-clause-made
-returns-in-PutAccount-clause-made g c = rw (c.in-PutAccount.is, ← c.writer_for-shard.ensures.is) (c.put.ensures.made _ c.entry.ensures)
+returns-in-PutAccount-clause-made g c = rw c.in-PutAccount.is (c.put.ensures.made _ c.entry.ensures)

@@ -1,0 +1,22 @@
+-- Which events of a room's state are looked at for the state part.
+use Rattle.std.specs.Prelude.{ℕ, Bool, ◌&&◌, cond, List, filter, nat_lt}
+use Rattle.mx_event.specs.declared.event.Event.{Event}
+use Rattle.mx_folding.specs.Parts.{state_list}
+use Rattle.mx_folding.specs.Rooms.{Room}
+use Rattle.mx_lazy.specs.declared.picker.Pick.{Pick}
+use Rattle.mx_lazy.specs.declared.picker.Pick.TheVariants as kind
+use Rattle.mx_view.specs.Rooms.{Key}
+use Rattle.mx_lazy.specs.Picks.{picked}
+use Rattle.mx_lazy.specs.declared.picker.Picker.{Picker}
+use Rattle.mx_parts.specs.Readings.{sieve}
+use Rattle.mx_parts.specs.declared.reading.Reading.{Reading}
+
+-- the whole state, or where nothing else is picked what lies after a position
+abbrev pub states_by : Room Event Key → List Event → Bool → Pick → ℕ → List Event
+states_by r es lazy kind.New q = state_list r es q
+states_by r es lazy (kind.Later from since base redundant stayed) q =
+    cond lazy (state_list r es q) (filter (λ (e : Event). nat_lt from e.id.at) (state_list r es q))
+
+-- the state filter passes the event, and it is picked
+unfoldable pub is_kept_by : Reading → Picker → Event → Bool
+is_kept_by v p e = (sieve v).keeps e && picked p e

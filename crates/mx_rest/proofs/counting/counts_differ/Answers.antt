@@ -1,0 +1,19 @@
+use Rattle.std.proofs.Common.{◌∙◌, sym}
+use Rattle.mx_snapshot.specs.Looks.{all_now}
+use Rattle.mx_rest.specs.Servers.{lists_of}
+use Rattle.mx_rest.proofs.Quiet.{counts_apart, counts_quiet}
+use Rattle.mx_rest.proofs.counting.counts_differ.Goals as goal
+
+pub returns-then-is_uncounted : goal.returns-then-is_uncounted
+returns-then-is_uncounted c =
+    let rest = c.args.rest.now in
+    counts_quiet rest.room.now rest.user.now (lists_of rest.snapshot.now)
+    (record { events = c.front-events.ensures.placed; receipts = c.front-receipts.ensures.placed; accounts = c.front-entries.ensures.placed })
+    c.args.since.now c.requires.behind (all_now c.args.receipts.now) c.requires.receipts (sym c.is_uncounted.ensures ∙ c.if-is_uncounted.true)
+
+pub returns-in_ok-before : goal.returns-in_ok-before
+returns-in_ok-before c =
+    let rest = c.args.rest.now in
+    counts_apart rest.room.now rest.user.now (lists_of rest.snapshot.now)
+    (record { events = c.front-events.ensures.placed; receipts = c.front-receipts.ensures.placed; accounts = c.front-entries.ensures.placed })
+    c.args.since.now c.requires.behind c.in_ok-before.before c.args.now c.in_ok-before.ensures c.requires.counted c.same_counts.result c.same_counts.ensures
