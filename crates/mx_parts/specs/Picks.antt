@@ -11,11 +11,11 @@ use Rattle.mx_lazy.specs.declared.picker.Picker.{Picker}
 use Rattle.mx_parts.specs.Readings.{sieve}
 use Rattle.mx_parts.specs.declared.reading.Reading.{Reading}
 
--- the whole state, or where nothing else is picked what lies after a position
+-- the whole state, or of a later part where nobody is named what lies after its position
 abbrev pub states_by : Room Event Key → List Event → Bool → Pick → ℕ → List Event
-states_by r es lazy kind.New q = state_list r es q
-states_by r es lazy (kind.Later from since base redundant stayed) q =
-    cond lazy (state_list r es q) (filter (λ (e : Event). nat_lt from e.id.at) (state_list r es q))
+states_by r es named kind.New q = state_list r es q
+states_by r es named (kind.Later from since base redundant stayed) q =
+    cond named (state_list r es q) (filter (λ (e : Event). nat_lt from e.id.at) (state_list r es q))
 
 -- the state filter passes the event, and it is picked
 unfoldable pub is_kept_by : Reading → Picker → Event → Bool

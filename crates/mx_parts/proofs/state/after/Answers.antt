@@ -9,4 +9,4 @@ returns-in_ok-made c =
     let v = c.args.reading.now in
     let whole : List Event = state_list (room_in v) (events_of v) c.args.position in
     c.in_ok-made.ensures (sieve v) v.user.now
-    ∙ sym (ap (λ b. cond b whole (filter (λ (e : Event). nat_lt c.args.from e.id.at) whole)) c.if-lazy.false)
+    ∙ sym (ap (λ b. cond b whole (filter (λ (e : Event). nat_lt c.args.from e.id.at) whole)) c.if-named.false)
