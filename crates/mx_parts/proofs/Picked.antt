@@ -7,7 +7,7 @@ use Rattle.std.specs.List.{AllByRecursion, list_any}
 use Rattle.std.specs.Str.{bytes_eq}
 use Rattle.mx_window.specs.Lasts.{current}
 use Rattle.mx_window.specs.Windows.{between}
-use Rattle.mx_window.proofs.Each.{filter-same, AllByRecursion-every, AllByRecursion-passed, AllByRecursion-weaker}
+use Rattle.mx_window.proofs.Each.{filter-same, filter-swap, AllByRecursion-every, AllByRecursion-passed, AllByRecursion-weaker}
 use Rattle.mx_event.specs.Kinds.{is_of, member_type}
 use Rattle.mx_event.specs.Shown.{position_of}
 use Rattle.mx_event.specs.declared.event.Event.{Event}
@@ -19,7 +19,12 @@ use Rattle.mx_lazy.specs.declared.picker.Pick.{Pick}
 use Rattle.mx_lazy.specs.declared.picker.Pick.TheVariants as kind
 use Rattle.mx_lazy.specs.declared.picker.Picker.{Picker}
 use Rattle.mx_lazy.proofs.Picking.{picks_same}
-use Rattle.mx_parts.specs.Picks.{is_kept_by, states_by}
+use Rattle.mx_snapshot.specs.Events.{states}
+use Rattle.mx_state.specs.Standing.{standing_in, stands}
+use Rattle.mx_state.proofs.Standing as standing
+use Rattle.mx_state.proofs.Standing.{standing_is}
+use Rattle.mx_window.specs.Windows.{stand_from}
+use Rattle.mx_parts.specs.Picks.{is_kept_by, is_sent_by, start_by, states_by}
 use Rattle.mx_parts.specs.Readings.{events_of, front_of, room_in, sieve}
 use Rattle.mx_parts.specs.Sections as part
 use Rattle.mx_parts.specs.declared.reading.Reading.{Reading}
@@ -120,9 +125,37 @@ module _ (f : Sieve) (es sent : List Event) (p : Picker) (lazy : p.lazy ≡ f.la
         ap (filter kept) h
         ∙ later from since base redundant stays is (λ e. nobody p sent senders (sym named ∙ off) e e.state_key) (state_list r es q) ∙ whole
 
+and_turn : (a b : Bool) → (a && b) ≡ (b && a)
+and_turn true b = sym (and_true b) where
+  and_true : (c : Bool) → (c && true) ≡ c
+  and_true true = refl
+  and_true false = refl
+and_turn false b = sym (and_false b)
+
 kept_is : (v : Reading) (p : Picker) (xs : List Event) → filter (is_kept_by v p) xs ≡ filter (λ e. (sieve v).keeps e && picked p e) xs
 unfolding is_kept_by
-kept_is v p xs = refl
+kept_is v p xs =
+    filter-same (λ e. picked p e && (sieve v).keeps e) (λ e. (sieve v).keeps e && picked p e) xs
+    (AllByRecursion-every (λ e. (picked p e && (sieve v).keeps e) ≡ ((sieve v).keeps e && picked p e)) (λ e. and_turn (picked p e) ((sieve v).keeps e)) xs)
+
+state_is_listed : (v : Reading) → stand_from position_of 1 v.events.now ≡ true → (q : ℕ) → standing_in v.room.now 0 q v.events.now ≡ state_list (room_in v) (events_of v) q
+state_is_listed v placed q = standing.state_is (sieve v) v.user.now v.room.now q v.events.now placed
+
+-- what stands in the state is found among the room's state events
+standing_by : (v : Reading) → stand_from position_of 1 v.events.now ≡ true → (named : Bool) (k : Pick) (q : ℕ)
+    → standing_in v.room.now (start_by named k) q v.events.now ≡ states_by (room_in v) (events_of v) named k q
+standing_by v placed named kind.New q = state_is_listed v placed q
+standing_by v placed true (kind.Later from since base redundant stays) q = state_is_listed v placed q
+standing_by v placed false (kind.Later from since base redundant stays) q = standing_is (sieve v) v.user.now v.room.now from q v.events.now placed
+
+pub sent_states : (v : Reading) (p : Picker) → stand_from position_of 1 v.events.now ≡ true → (named : Bool) (k : Pick) (q start : ℕ) → start ≡ start_by named k
+    → filter (is_sent_by v p q) (between position_of start q (states v.room.now v.events.now)) ≡ filter (is_kept_by v p) (states_by (room_in v) (events_of v) named k q)
+unfolding is_sent_by
+sent_states v p placed named k q start at =
+    ap (λ n. filter (λ e. is_kept_by v p e && stands (events_of v) q e) (between position_of n q (states v.room.now v.events.now))) at
+    ∙ sym (twice (stands (events_of v) q) (is_kept_by v p) (between position_of (start_by named k) q (states v.room.now v.events.now)))
+    ∙ filter-swap (stands (events_of v) q) (is_kept_by v p) (between position_of (start_by named k) q (states v.room.now v.events.now))
+    ∙ ap (filter (is_kept_by v p)) (standing_by v placed named k q)
 
 -- what the code keeps, by a picker of the reading
 pub state_is : (v : Reading) (p : Picker) (sent : List Event) → p.user.now ≡ v.user.now → p.lazy ≡ (sieve v).lazy → HasSenders p.senders sent → IsStayed v.user.now (events_of v) p.pick
