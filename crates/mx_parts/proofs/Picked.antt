@@ -3,7 +3,7 @@ use Rattle.std.proofs.Common.{◌≡◌, ℕ, ◌+◌, ◌++◌, drop, append_as
 use Rattle.std.proofs.lemmas.List.Elements.{filter-append}
 use Rattle.std.specs.Borrow.{Bor}
 use Rattle.std.proofs.lemmas.Bool.{or_parts}
-use Rattle.std.specs.List.{AllByRecursion, list_any}
+use Rattle.std.specs.List.{list_any}
 use Rattle.std.specs.Str.{bytes_eq}
 use Rattle.mx_window.specs.Lasts.{current}
 use Rattle.mx_window.specs.Windows.{between}
@@ -25,7 +25,7 @@ use Rattle.mx_state.proofs.Standing as standing
 use Rattle.mx_state.proofs.Standing.{standing_is}
 use Rattle.mx_window.specs.Windows.{stand_from}
 use Rattle.mx_parts.specs.Picks.{is_kept_by, is_sent_by, start_by, states_by}
-use Rattle.mx_parts.specs.Readings.{events_of, front_of, room_in, sieve}
+use Rattle.mx_parts.specs.Readings.{events_of, room_in, sieve}
 use Rattle.mx_parts.specs.Sections as part
 use Rattle.mx_parts.specs.declared.reading.Reading.{Reading}
 use Rattle.mx_parts.specs.declared.window.Window.{Window}

@@ -1,11 +1,10 @@
-use Rattle.std.proofs.Common.{◌≡◌, ◌&&◌, ◌||◌, List, cond, refl, ap, subst, sym, ◌∙◌}
-use Rattle.mx_event.specs.declared.event.Event.{Event}
+use Rattle.std.proofs.Common.{◌&&◌, ◌||◌, cond, refl, ap, subst, sym, ◌∙◌}
 use Rattle.mx_folding.specs.Parts.{is_cons}
-use Rattle.mx_lazy.specs.Picks.{HasSenders, pick_of}
+use Rattle.mx_lazy.specs.Picks.{pick_of}
 use Rattle.mx_lazy.specs.declared.picker.Picker.{Picker}
 use Rattle.mx_snapshot.specs.Looks.{all_now}
 use Rattle.mx_parts.specs.Readings.{room_in}
-use Rattle.mx_parts.specs.Sections.{AreListed, cut_of, section_of, state_of}
+use Rattle.mx_parts.specs.Sections.{AreListed, cut_of, section_of}
 use Rattle.mx_parts.specs.Shows.{all_shown}
 use Rattle.mx_parts.proofs.Picked.{part_state}
 use Rattle.mx_parts.proofs.Shown.{section_listed, state_listed}
