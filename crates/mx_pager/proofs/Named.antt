@@ -15,10 +15,10 @@ use Rattle.mx_event.specs.declared.event.Event.{Event}
 use Rattle.mx_folding.specs.Parts.{is_sender, members_of, state_list}
 use Rattle.mx_folding.specs.Rooms.{key_is}
 use Rattle.mx_lazy.specs.Members.{members_at}
-use Rattle.mx_lazy.specs.Picks.{HasSenders, has_sender}
+use Rattle.mx_lazy.specs.Picks.{HasSenders}
 use Rattle.mx_parts.specs.Readings.{events_of, room_in}
 use Rattle.mx_parts.specs.declared.reading.Reading.{Reading}
-use Rattle.mx_view.specs.Rooms.{Key, key_of}
+use Rattle.mx_view.specs.Rooms.{key_of}
 use Rattle.mx_snapshot.specs.Events.{members}
 use Rattle.mx_state.specs.Standing.{stands}
 use Rattle.mx_lazy.proofs.InState.{members_are}
