@@ -13,3 +13,5 @@ mod reads;
 mod rests;
 #[cfg(test)]
 mod scans;
+#[cfg(test)]
+mod unread;
