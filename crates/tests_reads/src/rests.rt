@@ -40,15 +40,17 @@ const DATA: &str = r#"[
     ["@a:b",1,"m.tag",5],
     ["@a:b",0,"m.direct",6]]"#;
 
-/// What is asked of the first room: the user and its filter; and what is seen: the events of the receipts, and the contents.
+/// What is asked of the first room: the user and its filter; and what is seen: the events of the receipts, and the
+/// contents.
 const VIEWS: &str = r#"[
     ["@a:b",{},[7,5,6],[2,5]],
     ["@c:b",{},[7,6,4],[4]],
     ["@d:b",{},[7,6],[]],
-    ["@a:b",{"room":{"ephemeral":{"not_types":["m.receipt"]},"account_data":{"types":["m.fully_read"]}}},[],[2]]]"#;
+    ["@a:b",{"room":{"ephemeral":{"not_types":["m.receipt"]},"account_data":{"types":["m.fully_read"]}}},
+        [],[2]]]"#;
 
-/// What is asked: the user, its filter, and the positions of receipts and account data of the token; and what came after it,
-/// with whether there is something to say.
+/// What is asked: the user, its filter, and the positions of receipts and account data of the token; and what came after
+/// it, with whether there is something to say.
 const CHANGES: &str = r#"[
     ["@a:b",{},0,0,[7,5,6],[2,5],true],
     ["@a:b",{},3,2,[7,5,6],[5],true],
@@ -187,14 +189,16 @@ fn events_digest(receipts: &Seq<Receipt>) -> u64 {
     sum
 }
 
-fn content(rt: &impl Abort, entry: &(Text, Json)) -> u64 {
-    u64::try_from(entry.1.as_int().expect(rt, "a number")).expect(rt, "a number from 0 on")
+/// The content of an entry; each is a number.
+fn content(entry: &(Text, Json)) -> u64 {
+    let number = entry.1.as_int().unwrap_or(0);
+    u64::try_from(number).unwrap_or(0)
 }
 
-fn contents_digest(rt: &impl Abort, account: &Seq<(Text, Json)>) -> u64 {
+fn contents_digest(account: &Seq<(Text, Json)>) -> u64 {
     let mut sum = 0u64;
     for entry in account.as_slice() {
-        sum = with(sum, content(rt, entry));
+        sum = with(sum, content(entry));
     }
     sum
 }
@@ -202,7 +206,11 @@ fn contents_digest(rt: &impl Abort, account: &Seq<(Text, Json)>) -> u64 {
 /// The digest of the numbers that stand at an index of a row.
 fn numbers_digest(rt: &impl Abort, row: &Json, index: usize) -> u64 {
     let mut sum = 0u64;
-    for entry in part(rt, row, index).as_list().expect(rt, "a list").as_slice() {
+    for entry in part(rt, row, index)
+        .as_list()
+        .expect(rt, "a list")
+        .as_slice()
+    {
         let number = u64::try_from(entry.as_int().expect(rt, "a number"));
         sum = with(sum, number.expect(rt, "a number from 0 on"));
     }
@@ -213,18 +221,33 @@ fn filter(rt: &impl Abort, alloc: Global, row: &Json) -> Filter {
     read(alloc, part(rt, row, 1)).expect(rt, "a filter")
 }
 
+fn seen(alloc: Global, rest: &Rest<'_>) -> Result<u64, Memory>
+    requires { AreValid (lists_of rest.now.snapshot.now) }
+{
+    let seen = view(alloc, rest)?;
+    Ok(with(
+        events_digest(&seen.receipts),
+        contents_digest(&seen.account),
+    ))
+}
+
+fn is_seen(seen: Result<u64, Memory>, wanted: u64) -> bool {
+    matches!(seen, Ok(digest) if digest == wanted)
+}
+
 fn expect_view(rt: &impl Abort, alloc: Global, known: &Snapshot, row: &Json)
     requires { AreValid (lists_of known.now) }
 {
+    let wanted = with(numbers_digest(rt, row, 2), numbers_digest(rt, row, 3));
+    let user = user(rt, alloc, name(rt, row, 0).as_str());
+    let filter = filter(rt, alloc, row);
     let rest = Rest {
         snapshot: known,
         room: &room(1),
-        user: &user(rt, alloc, name(rt, row, 0).as_str()),
-        filter: &filter(rt, alloc, row),
+        user: &user,
+        filter: &filter,
     };
-    let seen = view(alloc, &rest).expect(rt, "memory");
-    assert_eq!(rt; events_digest(&seen.receipts), numbers_digest(rt, row, 2));
-    assert_eq!(rt; contents_digest(rt, &seen.account), numbers_digest(rt, row, 3));
+    assert!(rt; is_seen(seen(alloc, &rest), wanted));
 }
 
 fn expect_views(rt: &impl Abort, alloc: Global, known: &Snapshot)
@@ -258,20 +281,39 @@ fn token(rt: &impl Abort, known: &Snapshot, row: &Json) -> SyncToken
     }
 }
 
+fn said(alloc: Global, rest: &Rest<'_>, since: &SyncToken) -> Result<(u64, bool), Memory>
+    requires valid { AreValid (lists_of rest.now.snapshot.now) }
+    requires behind { is_before since.now (fronts_of (lists_of rest.now.snapshot.now)) ≡ true }
+{
+    let said = change(alloc, rest, since)?;
+    let delta = &said.delta;
+    let digest = with(
+        events_digest(&delta.receipts),
+        contents_digest(&delta.account),
+    );
+    Ok((digest, said.differs))
+}
+
+fn is_said(said: Result<(u64, bool), Memory>, wanted: u64, differs: bool) -> bool {
+    matches!(said, Ok((digest, came)) if digest == wanted && came == differs)
+}
+
 fn expect_change(rt: &impl Abort, alloc: Global, known: &Snapshot, row: &Json)
     requires { AreValid (lists_of known.now) }
 {
+    let wanted = with(numbers_digest(rt, row, 4), numbers_digest(rt, row, 5));
+    let differs = is_true(rt, row, 6);
+    let since = token(rt, known, row);
+    let user = user(rt, alloc, name(rt, row, 0).as_str());
+    let filter = filter(rt, alloc, row);
     let rest = Rest {
         snapshot: known,
         room: &room(1),
-        user: &user(rt, alloc, name(rt, row, 0).as_str()),
-        filter: &filter(rt, alloc, row),
+        user: &user,
+        filter: &filter,
     };
-    let since = token(rt, known, row);
-    let said = change(alloc, &rest, &since).expect(rt, "memory");
-    assert_eq!(rt; events_digest(&said.delta.receipts), numbers_digest(rt, row, 4));
-    assert_eq!(rt; contents_digest(rt, &said.delta.account), numbers_digest(rt, row, 5));
-    assert_eq!(rt; said.differs, is_true(rt, row, 6));
+    let said = said(alloc, &rest, &since);
+    assert!(rt; is_said(said, wanted, differs));
 }
 
 fn expect_changes(rt: &impl Abort, alloc: Global, known: &Snapshot)

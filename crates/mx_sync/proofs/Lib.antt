@@ -1,0 +1,11 @@
+pub mod Account
+pub mod Filters
+pub mod Listed
+pub mod Sending
+pub mod News
+pub mod Longer
+pub mod Stays
+pub mod Stripped
+pub mod Told
+pub mod Ways
+pub mod Whole
