@@ -3,7 +3,7 @@ use Rattle.mx_event.specs.Lawful.{of_room}
 use Rattle.mx_event.specs.Valid.{IsValid}
 use Rattle.mx_event.specs.declared.event.Event.{Event}
 use Rattle.mx_lanes.specs.Parts.{Taken}
-use Rattle.tests_sync.proofs.Built.{rooms_valid}
+use Rattle.tests_sync.proofs.ValidRooms.{rooms_valid}
 use Rattle.tests_sync.proofs.built.known.Goals as goal
 
 pub advance-requires-clause-accounts : goal.advance-requires-clause-accounts

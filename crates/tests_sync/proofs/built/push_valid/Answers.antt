@@ -1,6 +1,6 @@
 use Rattle.std.proofs.Common.{ap}
 use Rattle.mx_auth.specs.Standing.{Standing}
-use Rattle.tests_sync.proofs.Built.{built_more}
+use Rattle.tests_sync.proofs.ValidRooms.{built_more}
 use Rattle.tests_sync.proofs.built.push_valid.Goals as goal
 
 pub returns : goal.returns
