@@ -5,8 +5,8 @@ use Rattle.std.specs.BTreeSet.{BTreeSet}
 use Rattle.std.specs.Cmp.Lexicographic.{nat_list_eq_equiv}
 use Rattle.std.specs.List.{list_any}
 use Rattle.std.specs.Str.{bytes_eq}
-use Rattle.mx_window.proofs.Each.{filter-same, AllByRecursion-every, AllByRecursion-filter}
-use Rattle.mx_window.specs.Windows.{stand_from}
+use Rattle.mx_window.proofs.Each.{filter-same, filter-swap, AllByRecursion-every, AllByRecursion-filter}
+use Rattle.mx_window.specs.Windows.{between, stand_from}
 use Rattle.mx_event.specs.Shown.{position_of}
 use Rattle.mx_parts.specs.Sections.{AreListed, IsListed}
 use Rattle.mx_parts.proofs.Shown.{states_listed}
@@ -15,11 +15,14 @@ use Rattle.mx_event.specs.declared.event.Event.{Event}
 use Rattle.mx_folding.specs.Parts.{is_sender, members_of, state_list}
 use Rattle.mx_folding.specs.Rooms.{key_is}
 use Rattle.mx_lazy.specs.Members.{members_at}
-use Rattle.mx_lazy.specs.Picks.{HasSenders, has_sender}
+use Rattle.mx_lazy.specs.Picks.{HasSenders}
 use Rattle.mx_parts.specs.Readings.{events_of, room_in}
 use Rattle.mx_parts.specs.declared.reading.Reading.{Reading}
-use Rattle.mx_view.specs.Rooms.{Key, key_of}
-use Rattle.mx_pager.specs.Members.{has_key, is_by}
+use Rattle.mx_view.specs.Rooms.{key_of}
+use Rattle.mx_snapshot.specs.Events.{members}
+use Rattle.mx_state.specs.Standing.{stands}
+use Rattle.mx_lazy.proofs.InState.{members_are}
+use Rattle.mx_pager.specs.Members.{has_key, is_by, stands_by}
 
 twice : (p q : Event → Bool) (es : List Event) → filter p (filter q es) ≡ filter (λ e. q e && p e) es
 twice p q [] = refl
@@ -61,6 +64,14 @@ module _ (v : Reading) (senders : BTreeSet (List ℕ)) (sent : List Event) (have
       (AllByRecursion-every
       (λ (e : Event). (is_of member_type e && has_key senders e.state_key) ≡ (key_is (room_in v).member (key_of e) && key_is (is_sender (room_in v) sent) (key_of e)))
       (λ e. by_key e e.state_key refl) (state_list (room_in v) (events_of v) q))
+
+pub standing_named : (v : Reading) (senders : BTreeSet (List ℕ)) → stand_from position_of 1 v.events.now ≡ true → (q : ℕ)
+    → filter (stands_by v senders q) (between position_of 0 q (members v.room.now v.events.now)) ≡ filter (is_by senders) (members_at (events_of v) q)
+unfolding stands_by
+standing_named v senders placed q =
+    sym (twice (stands (events_of v) q) (is_by senders) (between position_of 0 q (members v.room.now v.events.now)))
+    ∙ filter-swap (stands (events_of v) q) (is_by senders) (between position_of 0 q (members v.room.now v.events.now))
+    ∙ ap (filter (is_by senders)) (members_are v.room.now q v.events.now placed)
 
 pub members_listed : (v : Reading) → stand_from position_of 1 v.events.now ≡ true → (q : ℕ) (sent : List Event) → AreListed v (members_of (room_in v) (events_of v) q sent)
 members_listed v placed q sent =

@@ -1,5 +1,5 @@
 -- A backward page of a gap is the page that the folding law speaks of.
-use Rattle.std.proofs.Common.{◌≡◌, ℕ, ◌++◌, ◌-◌, Bool, true, false, cond, nat_lt, List, [], ◌∷◌, Option, Some, None, option_map, is_some, unwrap_or, map, reverse, length, refl, ap, ap₂, sym, ◌∙◌}
+use Rattle.std.proofs.Common.{◌≡◌, ℕ, ◌-◌, Bool, true, false, cond, nat_lt, List, [], ◌∷◌, Option, Some, None, option_map, is_some, unwrap_or, map, reverse, length, refl, ap, ap₂, sym, ◌∙◌}
 use Rattle.std.proofs.lemmas.List.{reverse-reverse}
 use Rattle.mx_ids.specs.User.{server_of}
 use Rattle.mx_ids.specs.declared.page_token.PageToken.{PageToken}
@@ -8,7 +8,7 @@ use Rattle.mx_window.specs.Windows.{before_first}
 use Rattle.mx_window.proofs.Each.{map-map, map-same}
 use Rattle.mx_event.specs.Lawful.{of_room}
 use Rattle.mx_event.specs.Redaction.{redacted}
-use Rattle.mx_event.specs.Shown.{is_redacted, position_of, shown}
+use Rattle.mx_event.specs.Shown.{position_of, shown}
 use Rattle.mx_event.specs.declared.event.Event.{Event}
 use Rattle.mx_event.specs.declared.event.Shown.{Shown}
 use Rattle.mx_folding.specs.Parts as parts
@@ -17,15 +17,14 @@ use Rattle.mx_folding.specs.Redactions as fold
 use Rattle.mx_folding.specs.Rooms.{Room}
 use Rattle.mx_folding.specs.Sections.{chunk, sendable}
 use Rattle.mx_filter.specs.Sieves.{sieve_of}
-use Rattle.mx_fold.specs.Lists.{Lists, fronts_of}
 use Rattle.mx_fold.specs.Replies as reply
 use Rattle.mx_view.specs.Rooms.{Key, Sieve, room_of}
 use Rattle.mx_view.specs.Shows.{shown_for}
 use Rattle.mx_view.proofs.Pictured.{same_shown}
 use Rattle.mx_pager.proofs.Turned.{map_reverse}
 use Rattle.mx_pager.specs.Asks.{place_of}
-use Rattle.mx_pager.specs.Laws.{AsksGap, PagesAre, events_shown, page_from}
-use Rattle.mx_pager.specs.Pages.{page_in, page_of, shown_at}
+use Rattle.mx_pager.specs.Laws.{PagesAre, events_shown, page_from}
+use Rattle.mx_pager.specs.Pages.{page_of, shown_at}
 use Rattle.mx_pager.specs.declared.asked.Bound.{Bound}
 use Rattle.mx_pager.specs.declared.asked.Bound.TheVariants as bound
 use Rattle.mx_pager.specs.declared.asked.PageAsk.{PageAsk}

@@ -1,11 +1,9 @@
 -- What is put together is the page.
-use Rattle.std.proofs.Common.{◌≡◌, ℕ, ◌++◌, Bool, true, false, cond, List, [], ◌∷◌, Option, Some, None, take, drop, reverse, length, refl, ap, ap₂, subst, sym, ◌∙◌}
+use Rattle.std.proofs.Common.{◌≡◌, ℕ, Bool, true, false, cond, List, Option, Some, None, take, drop, reverse, ap, ap₂, subst, sym, ◌∙◌}
 use Rattle.std.proofs.lemmas.List.{take-append-drop}
-use Rattle.std.specs.Borrow.{Bor}
-use Rattle.std.specs.List.{AllByRecursion}
 use Rattle.mx_ids.specs.declared.page_token.PageToken.{PageToken}
 use Rattle.mx_window.specs.Windows.{stand_from}
-use Rattle.mx_window.proofs.Each.{AllByRecursion-append, AllByRecursion-front}
+use Rattle.mx_window.proofs.Each.{AllByRecursion-front}
 use Rattle.mx_event.specs.Shown.{position_of}
 use Rattle.mx_event.specs.declared.event.Event.{Event}
 use Rattle.mx_event.specs.declared.event.Shown.{Shown}

@@ -1,6 +1,5 @@
 -- The reply to GET /rooms/{roomId}/messages (Client-Server API, Getting events for a room).
-use Rattle.std.specs.Prelude.{ℕ, true, List, [], ◌∷◌, ◌++◌, map, Option, option_map, codes}
-use Rattle.std.specs.Option.{option_to_list}
+use Rattle.std.specs.Prelude.{ℕ, true, List, ◌∷◌, ◌++◌, map, option_map, codes}
 use Rattle.mx_ids.specs.Sync.{sync_text}
 use Rattle.mx_ids.specs.Page.{page_text}
 use Rattle.mx_ids.specs.declared.page_token.PageToken.{PageToken}

@@ -1,5 +1,5 @@
 -- A backward page of a gap that a sync left is the page that the folding law speaks of.
-use Rattle.std.specs.Prelude.{◌≡◌, ℕ, List, [], map, reverse, Option, option_map, is_some, unwrap_or, true, Some}
+use Rattle.std.specs.Prelude.{◌≡◌, ℕ, List, [], map, reverse, option_map, is_some, unwrap_or, true, Some}
 use Rattle.mx_ids.specs.User.{server_of}
 use Rattle.mx_ids.specs.declared.page_token.PageToken.{PageToken}
 use Rattle.mx_window.specs.Windows.{before_first}
@@ -11,7 +11,6 @@ use Rattle.mx_fold.specs.Lists.{Lists}
 use Rattle.mx_fold.specs.Replies as fold
 use Rattle.mx_fold.specs.Servers.{Server}
 use Rattle.mx_pager.specs.Pages.{page_of}
-use Rattle.mx_pager.specs.declared.asked.Bound.{Bound}
 use Rattle.mx_pager.specs.declared.asked.Bound.TheVariants as bound
 use Rattle.mx_pager.specs.declared.asked.PageAsk.{PageAsk}
 use Rattle.mx_pager.specs.declared.sent.Page.{Page}

@@ -1,5 +1,5 @@
 -- *Page*: what is sent of a room's events between two bounds.
-use Rattle.std.specs.Prelude.{◌≡◌, ℕ, Bool, cond, List, [], ◌∷◌, length, map, nat_lt, take, reverse, Option, Some, None}
+use Rattle.std.specs.Prelude.{ℕ, Bool, cond, List, [], ◌∷◌, length, map, nat_lt, take, reverse, Some, None}
 use Rattle.std.specs.List.{list_any}
 use Rattle.mx_ids.specs.User.{server_of}
 use Rattle.mx_ids.specs.declared.page_token.PageToken.{PageToken}

@@ -21,8 +21,8 @@ pub(crate) struct Chosen<'a> {
     pub(crate) more: bool,
 }
 
-/// The events of a page between two positions. Takes the time of the events from the end at which it begins until it is
-/// full, or of a few times as many, and of some searches.
+/// The events of a page between two positions. Takes the time of the room's events from the end at which it begins on, by
+/// stretches that grow by four until the page is full, and of some searches.
 pub(crate) fn choose<'a>(
     alloc: Global,
     reading: &Reading<'a>,

@@ -28,8 +28,9 @@ use std::alloc::Global;
 /// A page of a room's events, as a user sees them at the snapshot's front (Client-Server API, Getting events for a room).
 ///
 /// `TokenAhead` exactly where a component of a bound exceeds the front of its stream: the first of `from`, then of `to`.
-/// `Forbidden` exactly where none is, and the user sees no event of the room. Takes the time of the events of the page, or
-/// of a few times as many, and of some searches.
+/// `Forbidden` exactly where none is, and the user sees no event of the room. Takes the time of the room's events from where
+/// the page begins on, by stretches that grow by four until it is full; with lazy members that of the room's member events
+/// besides; and that of some searches.
 pub fn page(
     alloc: Global,
     snapshot: &Snapshot,

@@ -15,8 +15,8 @@ use mx_parts::Reading;
 use mx_visible::{Sighted, sight};
 use std::alloc::Global;
 
-/// Whether the user sees an event of the room at the front. Takes the time of the room's events from its end until one is
-/// visible, or of a few times as many, and of some searches.
+/// Whether the user sees an event of the room at the front. Takes the time of the room's events from the front back, by
+/// stretches that grow by four until one is visible, and of some searches.
 pub(crate) fn sees_room(alloc: Global, reading: &Reading<'_>) -> Result<bool, Memory>
     ensures { IfOk result (λ b. b ≡ sent.sees reading.now.user.now (events_of reading.now) (front_of reading.now)) }
 {

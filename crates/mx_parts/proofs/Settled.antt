@@ -1,6 +1,6 @@
 -- Where an event that may be sent is left out of the section of a window's upper stretch, the section is that of the whole window.
-use Rattle.std.proofs.Common.{◌≡◌, ℕ, zero, suc, ◌+◌, ◌-◌, ◌<◌, ◌≤◌, Bool, true, false, cond, not, nat_lt, ◌&&◌, List, [], ◌∷◌, ◌++◌, filter, drop, length, Option, Some, None, refl, ap, ap₂, sym, subst, ◌∙◌, inl, inr, arith}
-use Rattle.std.proofs.lemmas.Bool.{cases_lt, lt-ltb, le-ltb, ltb-true}
+use Rattle.std.proofs.Common.{◌≡◌, ℕ, ◌+◌, ◌-◌, ◌<◌, ◌≤◌, Bool, true, false, not, ◌&&◌, List, ◌++◌, filter, drop, length, Option, Some, None, refl, ap, ap₂, sym, subst, ◌∙◌, inl, inr, arith}
+use Rattle.std.proofs.lemmas.Bool.{cases_lt, lt-ltb, ltb-true}
 use Rattle.std.proofs.Math.Seq.{drop-append-add}
 use Rattle.std.proofs.lemmas.List.{length-drop, length-append}
 use Rattle.std.proofs.lemmas.List.Elements.{filter-append}
@@ -10,7 +10,7 @@ use Rattle.mx_window.specs.Lasts.{last, last_at, last_of}
 use Rattle.mx_window.proofs.Intervals.{between-empty, between-split, between-within}
 use Rattle.mx_window.proofs.Lasts.{last_of-some, last_of-split}
 use Rattle.mx_folding.specs.Rooms.{Room, is_kept}
-use Rattle.mx_folding.specs.Sections.{sendable, break_at, section, is_limited, window}
+use Rattle.mx_folding.specs.Sections.{sendable, section, is_limited, window}
 
 -- the last few of two lists, where the second has as many
 last-behind : {A : Type 0} (n : ℕ) (xs ys : List A) → n ≤ length ys → last n (xs ++ ys) ≡ last n ys

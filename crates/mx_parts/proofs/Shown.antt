@@ -13,7 +13,7 @@ use Rattle.mx_window.proofs.Lasts.{AllByRecursion-current}
 use Rattle.mx_window.proofs.Sections.{AllByRecursion-drop}
 use Rattle.mx_event.specs.Lawful.{of_room, same_room}
 use Rattle.mx_event.specs.Redaction.{redacted}
-use Rattle.mx_event.specs.Shown.{first_of, is_redacted, names, position_of, redactions, shown}
+use Rattle.mx_event.specs.Shown.{first_of, names, position_of, redactions, shown}
 use Rattle.mx_event.specs.Valid.{IsValid}
 use Rattle.mx_event.specs.declared.event.Event.{Event}
 use Rattle.mx_event.specs.declared.event.Shown.{Shown}
@@ -30,7 +30,7 @@ use Rattle.mx_parts.proofs.Placed.{all_found}
 use Rattle.mx_view.specs.Readings.{viewer_of}
 use Rattle.mx_view.specs.Shows.{shown_for}
 use Rattle.mx_view.proofs.Pictured.{same_shown}
-use Rattle.mx_parts.specs.Readings.{IsRead, events_of, front_of, room_in, sieve, window_of}
+use Rattle.mx_parts.specs.Readings.{events_of, front_of, room_in, sieve}
 use Rattle.mx_parts.specs.Sections.{AreListed, IsListed, section_of, state_part, is_limited, cut_of, state_of}
 use Rattle.mx_parts.specs.Shows.{PartsAre, all_shown}
 use Rattle.mx_parts.specs.declared.reading.Reading.{Reading}

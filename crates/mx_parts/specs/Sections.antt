@@ -3,7 +3,6 @@ use Rattle.std.specs.Prelude.{◌≡◌, ℕ, Bool, true, cond, List}
 use Rattle.std.specs.List.{AllByRecursion}
 use Rattle.std.specs.Prelude.{Some}
 use Rattle.mx_event.specs.Lawful.{same_room}
-use Rattle.mx_event.specs.Shown.{position_of}
 use Rattle.mx_event.specs.declared.event.Event.{Event}
 use Rattle.mx_folding.specs.Parts as parts
 use Rattle.mx_folding.specs.Sections as sections

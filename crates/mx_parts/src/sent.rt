@@ -9,7 +9,7 @@ use crate::part::RoomPart;
 use crate::reading::Reading;
 use crate::settling::section;
 use crate::showing::all_shown;
-use crate::state::state_part;
+use crate::state::{names_some, state_part};
 use crate::window::Window;
 use mx_ids::{Memory, Seq, Text};
 use mx_lazy::{Pick, Picker, senders};
@@ -36,7 +36,9 @@ pub fn room_part(
         heroes,
         senders: senders(alloc, &section.events)?,
     };
-    let state = state_part(alloc, reading, &picker, state_end(window, section.cut))?;
+    let named = names_some(picker.lazy, &section.events, heroes);
+    let end = state_end(window, section.cut);
+    let state = state_part(alloc, reading, &picker, named, end)?;
     Ok(RoomPart {
         limited: section.limited,
         cut: section.cut,

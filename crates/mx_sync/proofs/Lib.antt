@@ -3,6 +3,7 @@ pub mod Filters
 pub mod Listed
 pub mod Sending
 pub mod News
+pub mod Quiet
 pub mod Longer
 pub mod Stays
 pub mod Stripped

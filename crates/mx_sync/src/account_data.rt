@@ -27,7 +27,7 @@ use std::alloc::Global;
 use std::collections::BTreeMap;
 
 /// The type of push rules (Client-Server API, Push Rules: Events).
-const PUSH_RULES: &str = "m.push_rules";
+pub(crate) const PUSH_RULES: &str = "m.push_rules";
 
 /// The user's global account data that is sent: without `since` all, with default push rules where none are stored; else
 /// the types set after it.

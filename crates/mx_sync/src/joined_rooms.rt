@@ -1,12 +1,14 @@
 //! What a reply says of a room that the user is joined in.
 
-ghost use Rattle.std.specs.Prelude.{◌≡◌, [], Some, IfOk};
+ghost use Rattle.std.specs.Prelude.{◌≡◌, [], true, Some, IfOk};
 ghost use Rattle.mx_folding.specs.Parts.{is_cons};
 ghost use Rattle.mx_rest.specs.Rests.{heroes_if};
 ghost use Rattle.mx_sync.specs.Parts.{later_part, new_part};
 ghost use Rattle.mx_sync.specs.Rooms.{IsAsked, ask_in, lists_in, user_in};
 ghost use Rattle.mx_sync.specs.Ways as way;
+ghost use Rattle.mx_sync.specs.declared.room_reply.RoomReply.TheVariants as answers;
 
+use crate::quiet_rooms::is_quiet;
 use crate::room_ask::{RoomAsk, base_of, is_joined_at, state_from, window, window_part};
 use crate::room_reply::RoomReply;
 use crate::sync_reply::{JoinedRoom, RoomRest};
@@ -58,6 +60,31 @@ fn first_part(alloc: Global, at: &RoomAsk<'_>, heroes: &Seq<Text>) -> Result<Roo
 }
 
 fn later(alloc: Global, at: &RoomAsk<'_>, since: &SyncToken) -> Result<RoomReply, Memory>
+    requires asked { IsAsked at.now }
+    requires is_since { at.now.ask.now.since ≡ Some since.now }
+    ensures { IfOk result (λ r. r ≡ way.later (lists_in at.now) (user_in at.now) (ask_in at.now) at.now.room.now since.now) }
+{
+    if is_still(at, since) {
+        Ok(RoomReply::Nothing)
+    } else {
+        news(alloc, at, since)
+    }
+}
+
+/// Whether nothing is said since nothing came: a look-up finds it.
+fn is_still(at: &RoomAsk<'_>, since: &SyncToken) -> bool
+    requires asked { IsAsked at.now }
+    requires is_since { at.now.ask.now.since ≡ Some since.now }
+    ensures { result ≡ true → answers.Nothing ≡ way.later (lists_in at.now) (user_in at.now) (ask_in at.now) at.now.room.now since.now }
+{
+    let _events = at.snapshot.events.front();
+    let _receipts = at.snapshot.receipts.front();
+    let _accounts = at.snapshot.accounts.front();
+    let still = is_quiet(at, since);
+    still && !at.ask.full_state
+}
+
+fn news(alloc: Global, at: &RoomAsk<'_>, since: &SyncToken) -> Result<RoomReply, Memory>
     requires asked { IsAsked at.now }
     requires is_since { at.now.ask.now.since ≡ Some since.now }
     ensures { IfOk result (λ r. r ≡ way.later (lists_in at.now) (user_in at.now) (ask_in at.now) at.now.room.now since.now) }

@@ -8,6 +8,7 @@ mod invites;
 mod joined_rooms;
 mod laws;
 mod left_rooms;
+mod quiet_rooms;
 mod room_ask;
 mod room_reply;
 mod rooms;

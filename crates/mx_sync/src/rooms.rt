@@ -9,6 +9,7 @@ ghost use Rattle.mx_snapshot.specs.Events.{rooms_of};
 ghost use Rattle.mx_view.specs.Readings as read;
 ghost use Rattle.mx_window.specs.Lasts.{last_of};
 ghost use Rattle.mx_sync.specs.Asks.{asked};
+ghost use Rattle.mx_sync.specs.Quiet.{AreTouched};
 ghost use Rattle.mx_sync.specs.Replies.{all_said, invited_of, joined_of, left_of, said_of};
 ghost use Rattle.mx_sync.specs.Rooms.{IsAsked, ask_in, events_of, lists_in, user_in};
 ghost use Rattle.mx_sync.specs.Ways as way;
@@ -16,6 +17,7 @@ ghost use Rattle.mx_sync.specs.Ways as way;
 use crate::invites::invited;
 use crate::joined_rooms::joined;
 use crate::left_rooms::left;
+use crate::quiet_rooms::touched_rooms;
 use crate::room_ask::RoomAsk;
 use crate::room_reply::RoomReply;
 use crate::sync_ask::SyncAsk;
@@ -26,6 +28,7 @@ use mx_ids::{Memory, RoomId, Text, write_room_id};
 use mx_snapshot::Snapshot;
 use mx_visible::{Membership, membership_of};
 use std::alloc::Global;
+use std::collections::BTreeSet;
 
 /// What is said of rooms, by the user's membership.
 #[derive(Drop)]
@@ -48,13 +51,14 @@ pub(crate) fn all_rooms(
     ensures left { IfOk result (λ r. r.left.items ≡ filter_map left_of (all_said (lists_of snapshot.now) ask.now.user.now (asked ask.now) (rooms_of ask.now.user.now snapshot.now.events))) }
 {
     let rooms = snapshot.events.rooms_of(alloc, ask.user.as_str())?;
+    let touched = touched_rooms(alloc, snapshot, ask)?;
     let mut lists = RoomLists {
         joined: Vec::new(alloc),
         invited: Vec::new(alloc),
         left: Vec::new(alloc),
     };
     'rooms: for room in &rooms {
-        let said = said_of(alloc, snapshot, ask, &room.0)?;
+        let said = said_of(alloc, snapshot, ask, &touched, &room.0)?;
         add(&mut lists, said)?;
     }
     Ok(lists)
@@ -78,14 +82,16 @@ fn said_of(
     alloc: Global,
     snapshot: &Snapshot,
     ask: &SyncAsk<'_>,
+    touched: &BTreeSet<RoomId>,
     room: &RoomId,
 ) -> Result<RoomReply, Memory>
     requires valid { AreValid (lists_of snapshot.now) }
+    requires touched { AreTouched touched.now ask.now.user.now (lists_of snapshot.now) ask.now.since }
     requires behind { is_behind ask.now.since (fronts_of (lists_of snapshot.now)) ≡ true }
     ensures { IfOk result (λ r. r ≡ said_of (lists_of snapshot.now) ask.now.user.now (asked ask.now) room.now) }
 {
     let _front = snapshot.events.front();
-    let said = way_of(alloc, snapshot, ask, room)?;
+    let said = way_of(alloc, snapshot, ask, touched, room)?;
     Ok(said)
 }
 
@@ -93,9 +99,11 @@ fn way_of(
     alloc: Global,
     snapshot: &Snapshot,
     ask: &SyncAsk<'_>,
+    touched: &BTreeSet<RoomId>,
     room: &RoomId,
 ) -> Result<RoomReply, Memory>
     requires valid { AreValid (lists_of snapshot.now) }
+    requires touched { AreTouched touched.now ask.now.user.now (lists_of snapshot.now) ask.now.since }
     requires behind { is_behind ask.now.since (fronts_of (lists_of snapshot.now)) ≡ true }
     ensures { IfOk result (λ r. r ≡ way.way (lists_of snapshot.now) ask.now.user.now (asked ask.now) room.now) }
 {
@@ -107,6 +115,7 @@ fn way_of(
             ask,
             room,
             text: &text,
+            touched,
         };
         by_last(alloc, &at)
     } else {

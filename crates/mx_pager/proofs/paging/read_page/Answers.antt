@@ -1,5 +1,4 @@
-use Rattle.std.proofs.Common.{List, Some, None, cond, reverse, ap, subst, sym, ◌∙◌}
-use Rattle.mx_event.specs.declared.event.Event.{Event}
+use Rattle.std.proofs.Common.{Some, None, cond, ap, subst, sym, ◌∙◌}
 use Rattle.mx_folding.specs.Parts.{members_of}
 use Rattle.mx_parts.specs.Readings.{events_of, front_of, room_in}
 use Rattle.mx_parts.specs.Sections.{AreListed}

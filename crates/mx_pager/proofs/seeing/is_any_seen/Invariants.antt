@@ -1,6 +1,5 @@
 use Rattle.std.proofs.Common.{◌≡◌, drop}
 use Rattle.std.specs.List.{list_any}
-use Rattle.mx_event.specs.declared.event.Event.{Event}
 use Rattle.mx_visible.specs.Walks.{all_sighted}
 use Rattle.mx_pager.proofs.seeing.is_any_seen.Given as goal
 

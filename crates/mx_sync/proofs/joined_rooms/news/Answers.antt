@@ -1,6 +1,6 @@
 use Rattle.mx_sync.specs.Rooms.{ask_in, lists_in, user_in}
 use Rattle.mx_sync.proofs.Sending.{later_is}
-use Rattle.mx_sync.proofs.joined_rooms.later.Goals as goal
+use Rattle.mx_sync.proofs.joined_rooms.news.Goals as goal
 
 pub returns : goal.returns
 returns c =

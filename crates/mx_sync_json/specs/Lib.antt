@@ -1,0 +1,5 @@
+pub mod Objects
+pub mod Receipts
+pub mod Groups
+pub mod Rooms
+pub mod Replies
