@@ -9,3 +9,5 @@ mod pages;
 mod parts;
 #[cfg(test)]
 mod replies;
+#[cfg(test)]
+mod texts;
