@@ -26,7 +26,11 @@ module _ (room : RoomId) (events : List Event) where
       (AllByRecursion-filter (λ (e : Event). at_position events e.id.at ≡ Some e) (λ (e : Event). same_room e.room room) events (all_found events placed))
       (AllByRecursion-passed (λ (e : Event). same_room e.room room) events) in
       let window = AllByRecursion-filter Listed (λ (e : Event). nat_lt 0 e.id.at && nat_le e.id.at invite.id.at) (of_room room events) here in
-      let standing = AllByRecursion-current Listed (sets_same (room_of f user (of_room room events))) (between position_of 0 invite.id.at (of_room room events)) window in
-      let states = AllByRecursion-filter Listed (is_state (room_of f user (of_room room events))) (current (sets_same (room_of f user (of_room room events))) (between position_of 0 invite.id.at (of_room room events))) standing in
+      let standing = AllByRecursion-current Listed (sets_same (room_of f user (of_room room events)))
+      (between position_of 0 invite.id.at (of_room room events)) window in
+      let states = AllByRecursion-filter Listed (is_state (room_of f user (of_room room events)))
+      (current (sets_same (room_of f user (of_room room events))) (between position_of 0 invite.id.at (of_room room events))) standing in
       subst (AllByRecursion Listed) (sym is)
-      (AllByRecursion-filter Listed (is_stripped user) (filter (is_state (room_of f user (of_room room events))) (current (sets_same (room_of f user (of_room room events))) (between position_of 0 invite.id.at (of_room room events)))) states)
+      (AllByRecursion-filter Listed (is_stripped user)
+      (filter (is_state (room_of f user (of_room room events)))
+      (current (sets_same (room_of f user (of_room room events))) (between position_of 0 invite.id.at (of_room room events)))) states)

@@ -8,4 +8,5 @@ use Rattle.mx_sync.proofs.invites.stripped_events.Goals as goal
 pub returns : goal.returns
 returns c =
     let at = c.args.at.now in
-    c.in_ok-kept.ensures ∙ ap (filter (is_stripped (user_in at))) (ap all_now c.deref.ensures.value ∙ c.in_ok-state.ensures (sieve (reading_in at)) (user_in at))
+    c.in_ok-kept.ensures ∙ ap (filter (is_stripped (user_in at)))
+    (ap all_now c.deref.ensures.value ∙ c.in_ok-state.ensures (sieve (reading_in at)) (user_in at))

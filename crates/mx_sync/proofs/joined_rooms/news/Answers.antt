@@ -6,5 +6,6 @@ pub returns : goal.returns
 returns c =
     let at = c.args.at.now in
     let change = c.in_ok-change.change in
-    later_is (lists_in at) (user_in at) (ask_in at) at.room.now c.args.since.now c.heroes_of.result.now c.in_ok-part.part change.differs change.delta c.reply_of.result
+    later_is (lists_in at) (user_in at)
+    (ask_in at) at.room.now c.args.since.now c.heroes_of.result.now c.in_ok-part.part change.differs change.delta c.reply_of.result
     c.reply_of.ensures c.in_ok-part.ensures c.heroes_of.ensures c.in_ok-change.ensures.differs c.in_ok-change.ensures.delta

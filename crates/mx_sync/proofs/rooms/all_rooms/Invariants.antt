@@ -1,5 +1,4 @@
 use Rattle.std.proofs.Common.{◌≡◌, ◌++◌, drop, filter_map, map}
-use Rattle.mx_fold.specs.Lists.{Lists}
 use Rattle.mx_rest.specs.Servers.{lists_of}
 use Rattle.mx_snapshot.specs.Looks.{own_now}
 use Rattle.mx_sync.specs.Asks.{asked}
@@ -10,7 +9,8 @@ abbrev pub invariant-rooms : goal.invariant-rooms
 invariant-rooms l =
     (l.lists.joined.items ++ filter_map joined_of (all_said (lists_of l.snapshot) l.ask.user.now (asked l.ask) (map own_now (drop l.room-index l.room-items)))
     ≡ filter_map joined_of (all_said (lists_of l.snapshot) l.ask.user.now (asked l.ask) (map own_now l.room-items)))
-    × (l.lists.invited.items ++ filter_map invited_of (all_said (lists_of l.snapshot) l.ask.user.now (asked l.ask) (map own_now (drop l.room-index l.room-items)))
+    × (l.lists.invited.items ++ filter_map invited_of
+    (all_said (lists_of l.snapshot) l.ask.user.now (asked l.ask) (map own_now (drop l.room-index l.room-items)))
     ≡ filter_map invited_of (all_said (lists_of l.snapshot) l.ask.user.now (asked l.ask) (map own_now l.room-items)))
     × (l.lists.left.items ++ filter_map left_of (all_said (lists_of l.snapshot) l.ask.user.now (asked l.ask) (map own_now (drop l.room-index l.room-items)))
     ≡ filter_map left_of (all_said (lists_of l.snapshot) l.ask.user.now (asked l.ask) (map own_now l.room-items)))

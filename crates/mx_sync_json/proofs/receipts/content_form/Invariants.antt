@@ -8,4 +8,5 @@ abbrev pub invariant-events : goal.invariant-events
 invariant-events l =
     (goal.iterator-events).can_next l.at-iterator
     × (goal.iterator-events).is_finite l.at-iterator
-    × (fold (with_event l.server l.receipts) l.members (map event_now l.at-iterator) ≡ fold (with_event l.server l.receipts) [] (latest nat_cmp event_at itself l.receipts))
+    × (fold (with_event l.server l.receipts) l.members (map event_now l.at-iterator) ≡ fold (with_event l.server l.receipts) []
+    (latest nat_cmp event_at itself l.receipts))

@@ -12,8 +12,10 @@ returns c =
     let ephemeral = c.in_ok-ephemeral.ensures ∙ ap (ephemeral_form c.args.to.now.server.now) c.receipts_of.ensures in
     let summary = c.in_ok-summary.ensures ∙ ap summary_form c.summary_of.ensures in
     let unread = c.in_ok-unread.ensures ∙ ap counts_form c.counts_of.ensures in
-    ap json.Object (six (member (codes "account_data") c.in_ok-account.account) (member (codes "ephemeral") c.in_ok-ephemeral.ephemeral) (member (codes "state") c.in_ok-state.state)
-    (member (codes "summary") c.in_ok-summary.summary) (member (codes "timeline") c.in_ok-timeline.timeline) (member (codes "unread_notifications") c.in_ok-unread.unread)
+    ap json.Object (six (member (codes "account_data") c.in_ok-account.account) (member (codes "ephemeral") c.in_ok-ephemeral.ephemeral)
+    (member (codes "state") c.in_ok-state.state)
+    (member (codes "summary") c.in_ok-summary.summary) (member (codes "timeline") c.in_ok-timeline.timeline)
+    (member (codes "unread_notifications") c.in_ok-unread.unread)
     c.new-members.result c.put.new.members c.put-2.new.members c.put-3.new.members c.put-4.new.members c.put-5.new.members c.put-6.new.members
     c.new-members.ensures c.in_ok-put.ensures.put c.in_ok-put-2.ensures.put c.in_ok-put-3.ensures.put c.in_ok-put-4.ensures.put c.in_ok-put-5.ensures.put c.in_ok-put-6.ensures.put)
     ∙ (λ i. json.Object (

@@ -4,4 +4,5 @@ use Rattle.mx_sync_json.proofs.rooms.joined_rooms.Given as goal
 
 abbrev pub invariant-rooms : goal.invariant-rooms
 invariant-rooms l =
-    fold (with_joined l.to.server.now l.to.device l.to.front) l.members (drop l.room-index l.room-items) ≡ fold (with_joined l.to.server.now l.to.device l.to.front) [] l.room-items
+    fold (with_joined l.to.server.now l.to.device l.to.front) l.members (drop l.room-index l.room-items) ≡ fold
+    (with_joined l.to.server.now l.to.device l.to.front) [] l.room-items

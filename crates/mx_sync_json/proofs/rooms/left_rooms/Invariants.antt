@@ -4,4 +4,5 @@ use Rattle.mx_sync_json.proofs.rooms.left_rooms.Given as goal
 
 abbrev pub invariant-rooms : goal.invariant-rooms
 invariant-rooms l =
-    fold (with_left l.to.server.now l.to.device l.to.front) l.members (drop l.room-index l.room-items) ≡ fold (with_left l.to.server.now l.to.device l.to.front) [] l.room-items
+    fold (with_left l.to.server.now l.to.device l.to.front) l.members (drop l.room-index l.room-items) ≡ fold
+    (with_left l.to.server.now l.to.device l.to.front) [] l.room-items

@@ -7,7 +7,8 @@ use Rattle.mx_sync_json.proofs.shown.bare_form.Goals as goal
 pub returns : goal.returns
 returns c =
     let sender = c.in_ok-sender.ensures ∙ c.as_text.ensures.text in
-    ap json.Object (four (member (codes "content") c.in_ok-content.content) (member (codes "sender") (json.Text c.in_ok-sender.sender)) (member (codes "state_key") (json.Text c.in_ok-key.key))
+    ap json.Object (four (member (codes "content") c.in_ok-content.content) (member (codes "sender") (json.Text c.in_ok-sender.sender))
+    (member (codes "state_key") (json.Text c.in_ok-key.key))
     (member (codes "type") (json.Text c.in_ok-kind.kind))
     c.new-members.result c.put.new.members c.put-2.new.members c.put-3.new.members c.put-4.new.members
     c.new-members.ensures c.in_ok-put.ensures.put c.in_ok-put-2.ensures.put c.in_ok-put-3.ensures.put c.in_ok-put-4.ensures.put)

@@ -6,7 +6,8 @@ use Rattle.mx_sync_json.proofs.writing.rooms_form.Goals as goal
 
 pub returns : goal.returns
 returns c =
-    ap json.Object (three (member (codes "invite") (json.Object c.in_ok-invited.invited)) (member (codes "join") (json.Object c.in_ok-joined.joined)) (member (codes "leave") (json.Object c.in_ok-left.left))
+    ap json.Object (three (member (codes "invite") (json.Object c.in_ok-invited.invited)) (member (codes "join") (json.Object c.in_ok-joined.joined))
+    (member (codes "leave") (json.Object c.in_ok-left.left))
     c.new-members.result c.put.new.members c.put-2.new.members c.put-3.new.members c.new-members.ensures c.in_ok-put.ensures.put c.in_ok-put-2.ensures.put c.in_ok-put-3.ensures.put)
     ∙ (λ i. json.Object (
     member (codes "invite") (json.Object (c.in_ok-invited.ensures i))
