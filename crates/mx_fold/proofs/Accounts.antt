@@ -1,5 +1,5 @@
 -- Global account data: what a client holds after replies is what stands last, type by type.
-use Rattle.std.proofs.Common.{◌≡◌, ℕ, ◌≤◌, Bool, true, false, cond, T, ◌&&◌, List, [], ◌∷◌, map, filter, nat_cmp, Option, Some, None, option_map, refl, sym, ap, ap₂, ◌∙◌, arith, take, nat_lt, nat_le}
+use Rattle.std.proofs.Common.{◌≡◌, ℕ, ◌≤◌, Bool, true, false, cond, T, ◌&&◌, List, [], ◌∷◌, filter, nat_cmp, Option, Some, None, option_map, refl, sym, ap, ap₂, ◌∙◌, arith, take, nat_lt, nat_le}
 use Rattle.std.proofs.lemmas.Bool.{and_parts}
 use Rattle.std.proofs.lemmas.Map.Text.{is_eq-slice_cmp}
 use Rattle.std.proofs.lemmas.Slice.Eq.{bytes_eq-Decides}

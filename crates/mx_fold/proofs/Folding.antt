@@ -11,7 +11,7 @@ use Rattle.mx_event.specs.Shown.{position_of}
 use Rattle.mx_event.specs.declared.event.Event.{Event}
 use Rattle.mx_folding.specs.Clients.{ClientRoom, with_page}
 use Rattle.mx_folding.specs.Parts.{Page, page_of}
-use Rattle.mx_folding.specs.Stories.{position, Story, Sync, told, standing, Holding, with_told, IsNext, IsBase}
+use Rattle.mx_folding.specs.Stories.{position, Story, told, standing, Holding, with_told, IsNext, IsBase}
 use Rattle.mx_folding.specs.Chains as chains
 use Rattle.mx_folding.specs.Chains.{new_client, Opening, around, Turn, Synced, Paged, with_paged, after_turn, after_turns, IsOpen, IsTurn, AreTurns}
 use Rattle.mx_view.specs.Rooms.{Key, room_of}

@@ -1,5 +1,5 @@
 -- The last item under each key: what is found under a key, and two lists joined.
-use Rattle.std.proofs.Common.{◌≡◌, ℕ, Bool, true, false, cond, T, ◌&&◌, List, [], ◌∷◌, ◌++◌, map, filter, fold, Option, Some, None, option_map, Ordering, Less, Equal, Greater, is_lt, is_eq, refl, ap, sym, subst, ◌∙◌, inl, inr}
+use Rattle.std.proofs.Common.{◌≡◌, Bool, true, false, cond, T, ◌&&◌, List, [], ◌∷◌, ◌++◌, map, fold, Option, Some, None, option_map, Ordering, Less, Equal, Greater, is_lt, is_eq, refl, ap, sym, subst, ◌∙◌, inl, inr}
 use Rattle.std.proofs.lemmas.Bool.{cases_Bool}
 use Rattle.std.proofs.lemmas.List.Sums.{fold-append}
 use Rattle.std.specs.BTreeMap.{insert_entry}
@@ -22,16 +22,18 @@ module _ {K V : Type 0} (cmp : K → K → Ordering) where
   put_is : (k : K) (v : V) (es : List (K × V)) → insert_entry cmp es k v ≡ put cmp k v es
   put_is k v [] = refl
   put_is k v (e ∷ es) = elim (cmp k e.0)
-      as (λ o. match_ordering o ((k, v) ∷ e ∷ es) ((e.0, v) ∷ es) (e ∷ insert_entry cmp es k v) ≡ by_order o ((k, v) ∷ e ∷ es) ((e.0, v) ∷ es) (e ∷ put cmp k v es)) [
-    | Less ↦ refl
-    | Equal ↦ refl
-    | Greater ↦ ap (λ l. e ∷ l) (put_is k v es)
-  ]
+      as (λ o. match_ordering o ((k, v) ∷ e ∷ es) ((e.0, v) ∷ es) (e ∷ insert_entry cmp es k v)
+      ≡ by_order o ((k, v) ∷ e ∷ es) ((e.0, v) ∷ es) (e ∷ put cmp k v es)) [
+        | Less ↦ refl
+        | Equal ↦ refl
+        | Greater ↦ ap (λ l. e ∷ l) (put_is k v es)
+      ]
 
   sorted_more : IsTotalOrder cmp → (k : K) (v : V) (es : List (K × V)) → T (is_sorted cmp es) → T (is_sorted cmp (insert_entry cmp es k v))
   sorted_more total k v es h = subst (λ l. T (is_sorted cmp l)) (sym (put_is k v es)) (is_sorted-put cmp total k v es h)
 
-  found_more : IsTotalOrder cmp → (q k : K) (v : V) (es : List (K × V)) → find cmp q (insert_entry cmp es k v) ≡ cond (eq_by_cmp cmp q k) (Some v) (find cmp q es)
+  found_more : IsTotalOrder cmp → (q k : K) (v : V) (es : List (K × V))
+      → find cmp q (insert_entry cmp es k v) ≡ cond (eq_by_cmp cmp q k) (Some v) (find cmp q es)
   found_more total q k v es = ap (find cmp q) (put_is k v es) ∙ find-put cmp total q k v es
 
 module _ {K X V : Type 0} (cmp : K → K → Ordering) (total : IsTotalOrder cmp) (key : X → K) (value : X → V) where
@@ -47,7 +49,8 @@ module _ {K X V : Type 0} (cmp : K → K → Ordering) (total : IsTotalOrder cmp
       all_found q (set_item cmp key value m x) xs
       ∙ ap (λ o. option_or (option_map value (last_of (λ y. eq_by_cmp cmp q (key y)) xs)) o) (found_more cmp total q (key x) (value x) m)
       ∙ step (last_of (λ y. eq_by_cmp cmp q (key y)) xs) (eq_by_cmp cmp q (key x)) where
-        step : (o : Option X) (b : Bool) → option_or (option_map value o) (cond b (Some (value x)) (find cmp q m)) ≡ option_or (option_map value (option_or o (cond b (Some x) None))) (find cmp q m)
+        step : (o : Option X) (b : Bool) → option_or (option_map value o) (cond b (Some (value x)) (find cmp q m))
+            ≡ option_or (option_map value (option_or o (cond b (Some x) None))) (find cmp q m)
         step (Some y) true = refl
         step (Some y) false = refl
         step None true = refl
@@ -80,7 +83,8 @@ module _ {K V : Type 0} (cmp : K → K → Ordering) (total : IsTotalOrder cmp) 
       ap (λ o. cond (is_eq o) (Some e.1) (find cmp q es)) first ∙ not_behind q k es tied (right (is_lt (cmp k e.0)) (below_all cmp k es) low)
 
   -- of entries in order the first with a key is the last with it
-  pub last_is_first : (q : K) (d : List (K × V)) → T (is_sorted cmp d) → option_map (λ (p : K × V). p.1) (last_of (λ (p : K × V). eq_by_cmp cmp q p.0) d) ≡ find cmp q d
+  pub last_is_first : (q : K) (d : List (K × V)) → T (is_sorted cmp d)
+      → option_map (λ (p : K × V). p.1) (last_of (λ (p : K × V). eq_by_cmp cmp q p.0) d) ≡ find cmp q d
   last_is_first q [] h = refl
   last_is_first q (e ∷ es) h =
       let rest = last_is_first q es (right (below_all cmp e.0 es) (is_sorted cmp es) h) in
@@ -114,8 +118,10 @@ latest_join {K = K} {V = V} cmp total exact key value xs ys =
     (all_sorted cmp total (λ (p : K × V). p.0) (λ (p : K × V). p.1) before after sorted_before)
     (all_sorted cmp total key value [] (xs ++ ys) tt)
     (λ q. all_found cmp total (λ (p : K × V). p.0) (λ (p : K × V). p.1) q before after
-        ∙ ap (λ o. option_or o (find cmp q before)) (last_is_first cmp total q after sorted_after ∙ all_found cmp total key value q [] ys ∙ option_or-none (option_map value (last_of (λ x. eq_by_cmp cmp q (key x)) ys)))
-        ∙ sym (ap (find cmp q) (fold-append (set_item cmp key value) [] xs ys) ∙ all_found cmp total key value q before ys))
+    ∙ ap (λ o. option_or o (find cmp q before)) (last_is_first cmp total q after sorted_after
+    ∙ all_found cmp total key value q [] ys
+    ∙ option_or-none (option_map value (last_of (λ x. eq_by_cmp cmp q (key x)) ys)))
+    ∙ sym (ap (find cmp q) (fold-append (set_item cmp key value) [] xs ys) ∙ all_found cmp total key value q before ys))
 
 pub latest_are_last : {K X V : Type 0} (cmp : K → K → Ordering) → IsTotalOrder cmp → (key : X → K) (value : X → V) (q : K) (xs : List X)
     → find cmp q (latest cmp key value xs) ≡ option_map value (last_of (λ x. eq_by_cmp cmp q (key x)) xs)
@@ -123,16 +129,20 @@ latest_are_last cmp total key value q xs = all_found cmp total key value q [] xs
 
 -- items under their own keys
 module _ {K X : Type 0} (cmp : K → K → Ordering) (exact : IsExact cmp) (key : X → K) where
-  keyed_more : (k : K) (x : X) (es : List (K × X)) → k ≡ key x → AllByRecursion (λ (p : K × X). p.0 ≡ key p.1) es → AllByRecursion (λ (p : K × X). p.0 ≡ key p.1) (insert_entry cmp es k x)
+  keyed_more : (k : K) (x : X) (es : List (K × X)) → k ≡ key x → AllByRecursion (λ (p : K × X). p.0 ≡ key p.1) es
+      → AllByRecursion (λ (p : K × X). p.0 ≡ key p.1) (insert_entry cmp es k x)
   keyed_more k x [] is all = (is, tt)
   keyed_more k x (e ∷ es) is all =
-      elim (cmp k e.0) as (λ o. cmp k e.0 ≡ o → AllByRecursion (λ (p : K × X). p.0 ≡ key p.1) (match_ordering o ((k, x) ∷ e ∷ es) ((e.0, x) ∷ es) (e ∷ insert_entry cmp es k x))) [
+      elim (cmp k e.0)
+      as (λ o. cmp k e.0 ≡ o
+      → AllByRecursion (λ (p : K × X). p.0 ≡ key p.1) (match_ordering o ((k, x) ∷ e ∷ es) ((e.0, x) ∷ es) (e ∷ insert_entry cmp es k x))) [
         | Less ↦ λ h. (is, all)
         | Equal ↦ λ h. (sym (exact k e.0 h) ∙ is, all.1)
         | Greater ↦ λ h. (all.0, keyed_more k x es is all.1)
       ] refl
 
-  all_keyed : (m : List (K × X)) (xs : List X) → AllByRecursion (λ (p : K × X). p.0 ≡ key p.1) m → AllByRecursion (λ (p : K × X). p.0 ≡ key p.1) (fold (set_item cmp key (λ x. x)) m xs)
+  all_keyed : (m : List (K × X)) (xs : List X) → AllByRecursion (λ (p : K × X). p.0 ≡ key p.1) m
+      → AllByRecursion (λ (p : K × X). p.0 ≡ key p.1) (fold (set_item cmp key (λ x. x)) m xs)
   all_keyed m [] all = all
   all_keyed m (x ∷ xs) all = all_keyed (insert_entry cmp m (key x) x) xs (keyed_more (key x) x m refl all)
 

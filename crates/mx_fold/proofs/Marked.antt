@@ -1,10 +1,7 @@
 -- What a reply and a page say over the lists at their mark, they say over all later lists.
-use Rattle.std.proofs.Common.{◌≡◌, ℕ, ◌<◌, ◌≤◌, Bool, true, List, [], ◌∷◌, ◌++◌, take, drop, Option, Some, None, refl, sym, ap, ◌∙◌}
+use Rattle.std.proofs.Common.{◌≡◌, ℕ, ◌<◌, ◌≤◌, Bool, true, List, ◌++◌, take, drop, Option, Some, None, refl, sym, ap, ◌∙◌}
 use Rattle.std.specs.List.{AllByRecursion}
-use Rattle.std.proofs.lemmas.Bool.{and_parts}
 use Rattle.std.proofs.lemmas.List.{take-take}
-use Rattle.mx_core.specs.History.{keeps_law}
-use Rattle.mx_core.specs.declared.history.Stored.{Stored}
 use Rattle.mx_core.proofs.Covering.{covers_more}
 use Rattle.mx_window.specs.Windows.{stand_from}
 use Rattle.mx_window.proofs.Each.{AllByRecursion-filter}
@@ -14,7 +11,6 @@ use Rattle.mx_event.specs.Lawful.{same_room, of_room}
 use Rattle.mx_event.specs.Shown.{position_of}
 use Rattle.mx_event.specs.declared.event.Event.{Event}
 use Rattle.mx_account.specs.Entries as account
-use Rattle.mx_account.specs.declared.entry.Entry.{Entry}
 use Rattle.mx_folding.specs.Parts.{page_of, Gap}
 use Rattle.mx_folding.specs.Stories.{Sync, told, IsNext, IsBase}
 use Rattle.mx_view.specs.Later.{SameRest}

@@ -34,7 +34,8 @@ module _ {V D : Type 0} (w : Server V D) (entries : List Entry) (user : List ℕ
   -- what is set after it
   abbrev pub account_sent : Option SyncToken → ℕ → List (List ℕ × Json)
   account_sent None high =
-      over (slice_cmp nat_cmp) (latest (slice_cmp nat_cmp) (λ (p : List ℕ × Json). p.0) (λ (p : List ℕ × Json). p.1) (defaults_of w user f)) (set_between 0 high)
+      over (slice_cmp nat_cmp) (latest (slice_cmp nat_cmp) (λ (p : List ℕ × Json). p.0) (λ (p : List ℕ × Json). p.1) (defaults_of w user f))
+      (set_between 0 high)
   account_sent (Some since) high = set_between since.a high
 
 -- the content that a list has under a type

@@ -8,3 +8,4 @@ pub mod Redacted
 pub mod Lazy
 pub mod Chains
 pub mod Exchanged
+pub mod Account

@@ -5,6 +5,6 @@
 mod rows;
 
 pub use rows::{
-    chains_compute, contents_say, exchanges_compute, limits_compute, members_compute,
-    redactions_compute, stays_compute, visibility_computes,
+    account_computes, chains_compute, contents_say, exchanges_compute, limits_compute,
+    members_compute, redactions_compute, stays_compute, visibility_computes,
 };

@@ -1,6 +1,7 @@
 //! The rows: each is a law over literal events.
 
 ghost use Rattle.mx_fold_rows.specs.Said.{RoomsSay, SaysMembership, SaysNames, SaysSetting};
+ghost use Rattle.mx_fold_rows.specs.Account.{FirstAccount, LaterAccount, NoAccount, NoType};
 ghost use Rattle.mx_fold_rows.specs.Exchanged.{FirstIsTold, NextIsTold, Begins, TakesPage, PassesPages, PassesReplies, GoesOnFrom, BeginsAnew, HasNotBegun};
 ghost use Rattle.mx_fold_rows.specs.Limits.{LastTen, RestOnePage, RestJustFits, PageOfThree, NoTimeline, LaterState, FullState, NothingNew, NeverThere};
 ghost use Rattle.mx_fold_rows.specs.Stays.{BreakAtHidden, PageOfStay, StateAfter, NoBreakAtDropped, HasLeft, CameBack, IsInvited, LeftAlready, InvitedAlready, LeaveIncluded, LeaveLeftOut, LeftSinceToken, LeftLimited, LeftBeforeToken, LeftSender, FirstBase, KeptBase};
@@ -125,4 +126,13 @@ pub fn exchanges_compute()
     ensures goes_on_from { GoesOnFrom }
     ensures begins_anew { BeginsAnew }
     ensures has_not_begun { HasNotBegun }
+{}
+
+/// The global account data of a reply.
+#[tactic(auto, using(crate::proofs::Account::first_account, crate::proofs::Account::later_account, crate::proofs::Account::no_account, crate::proofs::Account::no_type))]
+pub fn account_computes()
+    ensures first_account { FirstAccount }
+    ensures later_account { LaterAccount }
+    ensures no_account { NoAccount }
+    ensures no_type { NoType }
 {}

@@ -1,6 +1,5 @@
 -- The member events that stand are those of the state.
 use Rattle.std.proofs.Common.{◌≡◌, ℕ, Bool, true, false, cond, nat_lt, nat_le, ◌&&◌, List, [], ◌∷◌, filter, is_some, refl, sym, ap, ◌∙◌}
-use Rattle.std.specs.List.{AllByRecursion}
 use Rattle.mx_ids.specs.declared.room_id.RoomId.{RoomId}
 use Rattle.mx_window.specs.Windows.{between, stand_from}
 use Rattle.mx_window.proofs.Each.{filter-same, filter-swap, AllByRecursion-every}

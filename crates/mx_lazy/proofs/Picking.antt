@@ -4,15 +4,13 @@ use Rattle.std.proofs.lemmas.Bool.{cases_lt, lt-ltb, le-ltb, le-leb, lt-leb}
 use Rattle.std.specs.Cmp.Lexicographic.{nat_list_eq_equiv}
 use Rattle.std.specs.List.{list_any}
 use Rattle.std.specs.Str.{bytes_eq}
-use Rattle.mx_window.proofs.Each.{list_any-same}
 use Rattle.mx_event.specs.Kinds.{is_of, member_type}
 use Rattle.mx_event.specs.declared.event.Event.{Event}
-use Rattle.mx_folding.specs.Parts as part
 use Rattle.mx_folding.specs.Parts.{is_omitted}
 use Rattle.mx_folding.specs.Visible.{stayed_joined}
 use Rattle.mx_view.specs.Readings.{viewer_of}
 use Rattle.mx_view.specs.Rooms.{Sieve, room_of}
-use Rattle.mx_lazy.specs.Picks.{HasSenders, IsStayed, PicksAre, has_sender, is_hero, picked_as, pick_of}
+use Rattle.mx_lazy.specs.Picks.{HasSenders, IsStayed, PicksAre, is_hero, picked_as, pick_of}
 use Rattle.mx_lazy.specs.declared.picker.Pick.{Pick}
 use Rattle.mx_lazy.specs.declared.picker.Pick.TheVariants as kind
 use Rattle.mx_lazy.specs.declared.picker.Picker.{Picker}

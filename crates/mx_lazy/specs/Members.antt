@@ -6,7 +6,7 @@ use Rattle.mx_event.specs.Kinds.{is_of, member_type}
 use Rattle.mx_event.specs.Shown.{position_of}
 use Rattle.mx_event.specs.declared.event.Event.{Event}
 use Rattle.mx_folding.specs.Rooms.{Room, is_state, sets_same}
-use Rattle.mx_view.specs.Rooms.{Key, Sieve, room_of}
+use Rattle.mx_view.specs.Rooms.{Key, room_of}
 
 -- a member event
 abbrev pub is_member : Event → Bool

@@ -1,5 +1,5 @@
 -- The summary of a room (Client-Server API, Syncing, RoomSummary), over its events or over the member events of its state.
-use Rattle.std.specs.Prelude.{ℕ, Bool, false, true, not, cond, ◌&&◌, ◌||◌, List, [], ◌∷◌, map, filter, length, take, Option, Some, None, unwrap_or, nat_eq, if◌then◌else◌}
+use Rattle.std.specs.Prelude.{ℕ, Bool, false, true, not, ◌&&◌, ◌||◌, List, [], ◌∷◌, map, filter, length, take, Option, Some, None, unwrap_or, nat_eq, if◌then◌else◌}
 use Rattle.std.specs.Str.{bytes_eq}
 use Rattle.mx_event.specs.Kinds.{is_text}
 use Rattle.mx_event.specs.declared.event.Event.{Event}

@@ -1,0 +1,6 @@
+pub mod Gathered
+pub mod Picked
+pub mod Placed
+pub mod Settled
+pub mod Shown
+pub mod Stretched

@@ -11,7 +11,7 @@ use Rattle.mx_folding.specs.Sections as sections
 use Rattle.mx_view.specs.Rooms.{Key, Sieve, room_of}
 use Rattle.mx_filter.specs.Sieves.{sieve_of}
 use Rattle.mx_parts.specs.declared.reading.Reading.{Reading}
-use Rattle.mx_parts.specs.declared.section.Window.{Window}
+use Rattle.mx_parts.specs.declared.window.Window.{Window}
 
 -- the room's events
 abbrev pub events_of : Reading → List Event

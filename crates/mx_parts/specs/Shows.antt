@@ -1,14 +1,14 @@
 -- What a reply sends of a room's events, with each event as it is shown to the user.
-use Rattle.std.specs.Prelude.{◌≡◌, List, map}
+use Rattle.std.specs.Prelude.{◌≡◌, Bool, List, map}
 use Rattle.mx_event.specs.declared.event.Event.{Event}
 use Rattle.mx_event.specs.declared.event.Shown.{Shown}
 use Rattle.mx_folding.specs.Parts.{Part, part_of}
 use Rattle.mx_view.specs.Shows.{shown_for}
 use Rattle.mx_parts.specs.Sections.{cut_of, is_limited, section_of, state_of}
 use Rattle.mx_parts.specs.Readings.{events_of, front_of, room_in, window_of}
-use Rattle.mx_parts.specs.declared.room_part.RoomPart.{RoomPart}
+use Rattle.mx_parts.specs.declared.part.RoomPart.{RoomPart}
 use Rattle.mx_parts.specs.declared.reading.Reading.{Reading}
-use Rattle.mx_parts.specs.declared.section.Window.{Window}
+use Rattle.mx_parts.specs.declared.window.Window.{Window}
 
 abbrev pub all_shown : Reading → List Event → List Shown
 all_shown v es = map (shown_for v.user.now (events_of v) (front_of v)) es

@@ -2,12 +2,22 @@
 //! the section of the timeline, the state beside it, and each event as it is shown to the user.
 #![tactic(auto)]
 
+mod gathering;
 mod laws;
-mod room_part;
+mod part;
 mod reading;
-mod section;
+mod sending;
+mod sent;
+mod settling;
+mod showing;
+mod state;
+mod window;
 
 pub use laws::parts_are;
-pub use room_part::{RoomPart, room_part};
+pub use part::RoomPart;
 pub use reading::Reading;
-pub use section::{Section, Window, section};
+pub use sending::sendable;
+pub use sent::room_part;
+pub use settling::section;
+pub use showing::all_shown;
+pub use window::{Section, Window};

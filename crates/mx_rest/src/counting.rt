@@ -33,8 +33,8 @@ pub(crate) fn counts_now(alloc: Global, rest: &Rest<'_>) -> Result<Counts, Memor
     Ok(made)
 }
 
-/// Whether the counts aren't what they were at an earlier token. `receipts` are the room's receipts after it. The counts at
-/// the token are computed only where something came that counts rest on.
+/// Whether the counts aren't what they were at an earlier token. `receipts` are the room's receipts after it. The
+/// counts at the token are computed only where something came that counts rest on.
 pub(crate) fn counts_differ(
     alloc: Global,
     rest: &Rest<'_>,

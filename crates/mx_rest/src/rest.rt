@@ -32,8 +32,8 @@ pub struct Rest<'a> {
     pub filter: &'a Filter,
 }
 
-/// The rest of a room at the snapshot's fronts. Takes the time of the room's events and receipts, with some look-ups for each
-/// event, and of the user's account data.
+/// The rest of a room at the snapshot's fronts. Each room's list is valid. Takes the time of the room's events and
+/// receipts, with some look-ups for each event, and of the user's account data.
 pub fn view(alloc: Global, rest: &Rest<'_>) -> Result<RoomView, Memory>
     requires valid { AreValid (lists_of rest.now.snapshot.now) }
     ensures { IfOk result (λ v. v ≡ view_of rest.now.user.now rest.now.filter.now.selection rest.now.room.now (lists_of rest.now.snapshot.now)) }
@@ -51,9 +51,9 @@ pub fn view(alloc: Global, rest: &Rest<'_>) -> Result<RoomView, Memory>
     })
 }
 
-/// The change of the rest of a room from an earlier token, whose `b` says nothing here, to the snapshot's fronts. Takes the
-/// time of the counts at the fronts, and of what came after the token; counts and summary at the token are computed only
-/// where they may differ.
+/// The change of the rest of a room from an earlier token, whose `b` says nothing here, to the snapshot's fronts. Each
+/// room's list is valid, and the token isn't ahead. Takes the time of the counts at the fronts, and of what came after
+/// the token; counts and summary at the token are computed only where they may differ.
 pub fn change(alloc: Global, rest: &Rest<'_>, since: &SyncToken) -> Result<Change, Memory>
     requires valid { AreValid (lists_of rest.now.snapshot.now) }
     requires behind { is_before since.now (fronts_of (lists_of rest.now.snapshot.now)) ≡ true }

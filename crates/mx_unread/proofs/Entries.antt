@@ -1,6 +1,5 @@
 -- The user's latest entry.
-use Rattle.std.proofs.Common.{◌≡◌, ℕ, ◌<◌, ◌≤◌, ◌-◌, Bool, true, false, cond, not, ◌&&◌, List, [], ◌∷◌, ◌++◌, filter, nat_lt, nat_le, Option, Some, None, refl, ap, ap₂, sym, subst, ◌∙◌, arith, append_assoc}
-use Rattle.std.specs.List.{AllByRecursion}
+use Rattle.std.proofs.Common.{◌≡◌, ℕ, ◌<◌, ◌≤◌, ◌-◌, Bool, true, false, cond, not, ◌&&◌, List, [], ◌∷◌, ◌++◌, filter, nat_lt, nat_le, Option, Some, None, refl, ap, sym, subst, ◌∙◌, arith, append_assoc}
 use Rattle.std.specs.Option.{option_or, option_and_then}
 use Rattle.mx_ids.specs.declared.room_id.RoomId.{RoomId}
 use Rattle.mx_window.specs.Windows.{Ascends, between}
@@ -8,7 +7,7 @@ use Rattle.mx_window.specs.Lasts.{last_of, last_at}
 use Rattle.mx_window.proofs.Each.{AllByRecursion-weaker, filter-swap}
 use Rattle.mx_window.proofs.Intervals.{Ascends-between, between-inner, between-within}
 use Rattle.mx_window.proofs.Lasts.{last_of-same}
-use Rattle.mx_event.specs.Kinds.{has_key, member_type}
+use Rattle.mx_event.specs.Kinds.{member_type}
 use Rattle.mx_event.specs.Lawful.{of_room, same_room}
 use Rattle.mx_event.specs.Shown.{position_of}
 use Rattle.mx_event.specs.declared.event.Event.{Event}

@@ -1,19 +1,17 @@
 -- The walk that counts.
-use Rattle.std.proofs.Common.{◌≡◌, ℕ, ◌<◌, ◌≤◌, ◌+◌, ◌-◌, Bool, true, false, cond, not, nat_lt, nat_le, ◌&&◌, ◌||◌, List, [], ◌∷◌, ◌++◌, length, map, filter, nat_eq, Option, Some, None, is_some, refl, ap, ap₂, sym, ◌∙◌, arith, append_assoc, subst, eqb-true}
+use Rattle.std.proofs.Common.{◌≡◌, ℕ, ◌<◌, ◌≤◌, ◌+◌, ◌-◌, Bool, true, false, cond, not, nat_lt, nat_le, ◌&&◌, ◌||◌, List, [], ◌∷◌, ◌++◌, length, filter, nat_eq, Option, Some, None, is_some, refl, ap, ap₂, sym, ◌∙◌, arith, append_assoc, subst, eqb-true}
 use Rattle.std.proofs.lemmas.Bool.{and_parts}
 use Rattle.std.specs.List.{list_any, AllByRecursion}
 use Rattle.std.specs.Str.{bytes_eq}
 use Rattle.mx_ids.specs.declared.room_id.RoomId.{RoomId}
-use Rattle.mx_window.specs.Lasts.{keep_if}
 use Rattle.mx_window.specs.Windows.{Ascends, between, stand_from}
 use Rattle.mx_window.proofs.Each.{AllByRecursion-back, AllByRecursion-both, AllByRecursion-filter, AllByRecursion-passed, AllByRecursion-weaker}
 use Rattle.mx_window.proofs.Intervals.{Ascends-between, between-inner, between-within}
 use Rattle.mx_event.specs.Lawful.{of_room, same_room}
-use Rattle.mx_event.specs.Shown.{first_of, is_redacted, names, position_of, redactions}
+use Rattle.mx_event.specs.Shown.{first_of, is_redacted, names, position_of}
 use Rattle.mx_event.specs.Valid.{IsValid}
 use Rattle.mx_event.specs.declared.event.Event.{Event}
 use Rattle.mx_folding.specs.Visible.{is_visible}
-use Rattle.mx_snapshot.specs.Events.{first_redaction}
 use Rattle.mx_snapshot.specs.FirstRedactions.{FirstsAreOfRoom}
 use Rattle.mx_snapshot.specs.Looks.{at_position}
 use Rattle.mx_view.specs.Readings.{viewer_of}

@@ -10,7 +10,6 @@ use Rattle.mx_event.specs.declared.event.Event.{Event}
 use Rattle.mx_folding.specs.Visible.{is_join}
 use Rattle.mx_view.specs.Readings.{is_own, membership_of}
 use Rattle.mx_visible.specs.Walks.{newer}
-use Rattle.mx_lazy.specs.Members.{is_member}
 use Rattle.mx_lazy.specs.Summaries.{joined_by}
 use Rattle.mx_rules.specs.Rules.{Rules, rules_of}
 use Rattle.mx_push.specs.Settings.{Setting}

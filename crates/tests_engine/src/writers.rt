@@ -37,12 +37,7 @@ fn three_writers(rt: &impl Abort, alloc: Global, stop: u64) -> (Engine<Open>, En
 }
 
 /// A pass meets a copy of another one.
-fn meet(
-    rt: &impl Abort,
-    engine: &Engine<Open>,
-    pass: &mut EnginePass,
-    other: &mut EnginePass,
-)
+fn meet(rt: &impl Abort, engine: &Engine<Open>, pass: &mut EnginePass, other: &mut EnginePass)
     requires ties { Ties engine.now pass.old × Ties engine.now other.old }
     ensures ties { Ties engine.now pass.new × Ties engine.now other.new }
 {

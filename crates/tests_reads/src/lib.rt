@@ -10,4 +10,8 @@ mod others;
 #[cfg(test)]
 mod reads;
 #[cfg(test)]
+mod rests;
+#[cfg(test)]
 mod scans;
+#[cfg(test)]
+mod unread;

@@ -19,7 +19,7 @@ use std::process::Abort;
 use std::test::*;
 
 /// A snapshot of these events, and of no receipts and account data.
-fn snapshot(alloc: Global, events: &[Event]) -> Result<Snapshot, Memory>
+pub fn snapshot(alloc: Global, events: &[Event]) -> Result<Snapshot, Memory>
     requires { stand_from position_of 1 events.now ≡ true }
 {
     let mut snapshot = Snapshot::new(alloc);

@@ -93,6 +93,31 @@ pub fn state_scanned(events: &[Event], room: &RoomId, low: u64, high: u64) -> u6
     sum
 }
 
+/// The member events in the state of a room.
+pub fn members_scanned(events: &[Event], room: &RoomId, high: u64) -> u64 {
+    let mut sum = 0u64;
+    for event in events {
+        let here = event.id.at <= high && event.room == *room;
+        if here && is_member(event) && stands(events, event, high) {
+            sum = with(sum, event.id.at);
+        }
+    }
+    sum
+}
+
+/// How many of them give a membership.
+pub fn count_scanned(events: &[Event], room: &RoomId, high: u64, membership: &str) -> u64 {
+    let mut count = 0u64;
+    for event in events {
+        let here = event.id.at <= high && event.room == *room;
+        let gives = is_text(event.content.text_at("membership"), membership);
+        if here && is_member(event) && gives && stands(events, event, high) {
+            count = count.saturating_add(1);
+        }
+    }
+    count
+}
+
 /// The first event up to `high` that redacts the one at a position, or 0.
 pub fn first_scanned(events: &[Event], position: u64, high: u64) -> u64 {
     for event in events {

@@ -1,4 +1,4 @@
-use Rattle.std.proofs.Common.{◌∙◌, ◌<◌, ◌≤◌, not, sym, ap, arith}
+use Rattle.std.proofs.Common.{◌∙◌, ◌<◌, ◌≤◌, sym, ap, arith}
 use Rattle.mx_event.specs.Kinds.{has_key, member_type}
 use Rattle.mx_event.specs.Lawful.{of_room}
 use Rattle.mx_event.specs.Shown.{position_of}

@@ -1,4 +1,4 @@
-use Rattle.std.proofs.Common.{◌≡◌, ◌<◌, length, map, filter, drop, sym, ◌∙◌, arith, eqb-true}
+use Rattle.std.proofs.Common.{◌≡◌, ◌<◌, length, map, filter, drop, sym, ◌∙◌, arith}
 use Rattle.mx_snapshot.specs.Looks.{all_now}
 use Rattle.mx_lazy.specs.Summaries.{user_of, is_hero, first_five}
 use Rattle.mx_lazy.proofs.Heroes.{take_front, five_more}

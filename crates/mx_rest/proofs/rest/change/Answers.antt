@@ -12,7 +12,8 @@ returns-clause-delta c =
     let l = lists_of rest.snapshot.now in
     let old = upto c.args.since.now l in
     let f = rest.filter.now.selection in
-    let standing = standing_is f rest.user.now rest.room.now (news old.receipts l.receipts) (all_now c.deref.result.now) c.in_ok-standing.standing c.shows.result
+    let standing = standing_is f rest.user.now rest.room.now (news old.receipts l.receipts) (all_now c.deref.result.now)
+    c.in_ok-standing.standing c.shows.result
     c.in_ok-standing.ensures c.shows.ensures (ap all_now c.deref.ensures.value ∙ c.in_ok-receipts.ensures) in
     delta_is f rest.user.now rest.room.now old l c.in_ok-standing.standing c.in_ok-account.account c.in_ok-summary.summary
     standing c.in_ok-account.ensures c.in_ok-summary.ensures c.in_ok-counts.counts c.in_ok-counts.ensures
@@ -23,7 +24,8 @@ returns-clause-differs c =
     let l = lists_of rest.snapshot.now in
     let old = upto c.args.since.now l in
     let f = rest.filter.now.selection in
-    let standing = standing_is f rest.user.now rest.room.now (news old.receipts l.receipts) (all_now c.deref.result.now) c.in_ok-standing.standing c.shows.result
+    let standing = standing_is f rest.user.now rest.room.now (news old.receipts l.receipts) (all_now c.deref.result.now)
+    c.in_ok-standing.standing c.shows.result
     c.in_ok-standing.ensures c.shows.ensures (ap all_now c.deref.ensures.value ∙ c.in_ok-receipts.ensures) in
     c.says-differs.ensures
     ∙ differs_is f rest.user.now rest.room.now old l c.in_ok-standing.standing c.in_ok-account.account c.in_ok-summary.summary

@@ -1,0 +1,18 @@
+use Rattle.std.proofs.Common.{◌++◌, List, sym, ap, subst, ◌∙◌}
+use Rattle.mx_event.specs.Lawful.{of_room}
+use Rattle.mx_event.specs.Valid.{IsValid}
+use Rattle.mx_event.specs.declared.event.Event.{Event}
+use Rattle.mx_lanes.specs.Parts.{Taken}
+use Rattle.tests_reads.proofs.Built.{rooms_valid}
+use Rattle.tests_reads.proofs.unread.snapshot.Goals as goal
+
+pub advance-requires-clause-receipts : goal.advance-requires-clause-receipts
+advance-requires-clause-receipts g c = (c.in_ok-receipts.field-0.items, ap (λ l. l ++ c.in_ok-receipts.field-0.items) (sym c.new-known.ensures.receipts))
+
+pub advance-requires-clause-accounts : goal.advance-requires-clause-accounts
+advance-requires-clause-accounts g c = (c.in_ok-accounts.field-0.items, ap (λ l. l ++ c.in_ok-accounts.field-0.items) (sym c.new-known.ensures.accounts))
+
+pub returns : goal.returns
+returns g c = λ r. subst (λ (l : List Event). IsValid (of_room r l))
+    (sym (c.in_ok-advance.ensures.events ∙ ap (λ (p : Taken Event). p.items) c.in_ok-parts.ensures ∙ c.deref.ensures.value))
+    (rooms_valid c.in_ok-events.events.items c.in_ok-events.ensures r)
