@@ -1,4 +1,5 @@
 pub mod Gathers
+pub mod Under
 pub mod Picks
 pub mod Readings
 pub mod Sections

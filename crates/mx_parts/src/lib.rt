@@ -11,6 +11,7 @@ mod sent;
 mod settling;
 mod showing;
 mod state;
+mod under_keys;
 mod window;
 
 pub use laws::parts_are;
@@ -20,4 +21,5 @@ pub use sending::sendable;
 pub use sent::room_part;
 pub use settling::section;
 pub use showing::all_shown;
+pub use under_keys::{StateKey, standing_under};
 pub use window::{Section, Window};

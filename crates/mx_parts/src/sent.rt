@@ -9,7 +9,7 @@ use crate::part::RoomPart;
 use crate::reading::Reading;
 use crate::settling::section;
 use crate::showing::all_shown;
-use crate::state::{names_some, state_part};
+use crate::state::{named_keys, names_some, state_part};
 use crate::window::Window;
 use mx_ids::{Memory, Seq, Text};
 use mx_lazy::{Pick, Picker, senders};
@@ -38,7 +38,8 @@ pub fn room_part(
     };
     let named = names_some(picker.lazy, &section.events, heroes);
     let end = state_end(window, section.cut);
-    let state = state_part(alloc, reading, &picker, named, end)?;
+    let keys = named_keys(alloc, named, &section.events, heroes)?;
+    let state = state_part(alloc, reading, &picker, &keys, named, end)?;
     Ok(RoomPart {
         limited: section.limited,
         cut: section.cut,

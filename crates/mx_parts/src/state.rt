@@ -1,23 +1,70 @@
 //! The state that a reply sends beside a section.
 
-ghost use Rattle.std.specs.Prelude.{◌≡◌, ◌&&◌, ◌||◌, ◌++◌, [], ◌∷◌, filter, IfOk, OnOk};
-ghost use Rattle.mx_folding.specs.Parts.{is_cons};
-ghost use Rattle.mx_parts.specs.Picks.{is_kept_by, is_sent_by, start_by, states_by};
+ghost use Rattle.std.specs.Prelude.{◌≡◌, ◌&&◌, ◌||◌, ◌++◌, [], ◌∷◌, true, filter, map, IfOk, OnOk};
+ghost use Rattle.mx_folding.specs.Parts.{is_cons, state_list};
+ghost use Rattle.mx_parts.specs.Picks.{Covers, NamesAll, hero_pair, is_early_by, is_kept_by, is_sent_by, key_pair, sender_pair, start_by, states_by};
 ghost use Rattle.mx_parts.specs.Readings.{IsRead, events_of, room_in};
 ghost use Rattle.mx_snapshot.specs.Looks.{all_now};
 
 use crate::gathering::keeps;
 use crate::reading::Reading;
+use crate::under_keys::{StateKey, standing_under};
 use mx_event::Event;
+use mx_event::event_types::MEMBER;
 use mx_ids::{Memory, Seq, Text};
 use mx_lazy::{Pick, Picker};
 use mx_state::is_standing;
 use std::alloc::Global;
 
 /// Of the room's state at a position what the state filter passes and is picked, in order of position; `named` says whether
-/// member events are picked by who is named. Takes the time of the room's state events up to the position,
-/// or of a later part where nobody is named of those after it, and of a search for each that is picked.
+/// member events are picked by who is named, under these keys. Takes the time of the room's state events up to the position,
+/// or of a later part of those after it and of a search for each key, and of a search for each event that is picked.
 pub(crate) fn state_part<'a>(
+    alloc: Global,
+    reading: &Reading<'a>,
+    picker: &Picker<'_>,
+    keys: &[StateKey<'_>],
+    named: bool,
+    position: u64,
+) -> Result<Vec<&'a Event>, Memory>
+    requires read { IsRead reading.now }
+    requires names { named ≡ true → NamesAll picker.now keys.now }
+    ensures { IfOk result (λ made. all_now made.items ≡ filter (is_kept_by reading.now picker.now) (states_by (room_in reading.now) (events_of reading.now) named picker.now.pick position)) }
+{
+    if named {
+        let made = named_state(alloc, reading, picker, keys, position)?;
+        return Ok(made);
+    }
+    let made = looked_part(alloc, reading, picker, false, position)?;
+    Ok(made)
+}
+
+/// Where member events are picked by who is named.
+fn named_state<'a>(
+    alloc: Global,
+    reading: &Reading<'a>,
+    picker: &Picker<'_>,
+    keys: &[StateKey<'_>],
+    position: u64,
+) -> Result<Vec<&'a Event>, Memory>
+    requires read { IsRead reading.now }
+    requires names { NamesAll picker.now keys.now }
+    ensures { IfOk result (λ made. all_now made.items ≡ filter (is_kept_by reading.now picker.now) (states_by (room_in reading.now) (events_of reading.now) true picker.now.pick position)) }
+{
+    match picker.pick {
+        Pick::New => {
+            let made = looked_part(alloc, reading, picker, true, position)?;
+            Ok(made)
+        }
+        Pick::Later { from, .. } => {
+            let made = named_part(alloc, reading, picker, keys, from, position)?;
+            Ok(made)
+        }
+    }
+}
+
+/// Among the room's state events.
+fn looked_part<'a>(
     alloc: Global,
     reading: &Reading<'a>,
     picker: &Picker<'_>,
@@ -32,6 +79,112 @@ pub(crate) fn state_part<'a>(
     let all = reading.events.states(alloc, reading.room, start, position)?;
     let made = among(alloc, reading, picker, &all, position)?;
     Ok(made)
+}
+
+/// Under some keys up to a position, and all that comes after it.
+fn named_part<'a>(
+    alloc: Global,
+    reading: &Reading<'a>,
+    picker: &Picker<'_>,
+    keys: &[StateKey<'_>],
+    from: u64,
+    position: u64,
+) -> Result<Vec<&'a Event>, Memory>
+    requires read { IsRead reading.now }
+    requires covers { Covers reading.now picker.now from keys.now }
+    ensures { IfOk result (λ made. all_now made.items ≡ filter (is_kept_by reading.now picker.now) (state_list (room_in reading.now) (events_of reading.now) position)) }
+{
+    let _front = reading.events.front();
+    let under = standing_under(alloc, reading.events, reading.room, keys, position)?;
+    let later = reading.events.states(alloc, reading.room, from, position)?;
+    let mut made = early_among(alloc, reading, picker, &under, from)?;
+    let rest = among(alloc, reading, picker, &later, position)?;
+    append(&mut made, &rest)?;
+    Ok(made)
+}
+
+fn append<'a>(made: &mut Vec<&'a Event>, more: &[&'a Event]) -> Result<(), Memory>
+    ensures { OnOk result (all_now made.new.items ≡ all_now made.old.items ++ all_now more.now) }
+{
+    'events: for event in more {
+        made.push(*event)?;
+    }
+    Ok(())
+}
+
+fn early_among<'a>(
+    alloc: Global,
+    reading: &Reading<'_>,
+    picker: &Picker<'_>,
+    states: &[&'a Event],
+    from: u64,
+) -> Result<Vec<&'a Event>, Memory>
+    requires { IsRead reading.now }
+    ensures { IfOk result (λ made. all_now made.items ≡ filter (is_early_by reading.now picker.now from) (all_now states.now)) }
+{
+    let mut made = Vec::new(alloc);
+    'states: for state in states {
+        keep_early(&mut made, reading, picker, *state, from)?;
+    }
+    Ok(made)
+}
+
+#[tactic(auto, unfolding(crate::specs::Picks::is_early_by))]
+fn keep_early<'a>(
+    made: &mut Vec<&'a Event>,
+    reading: &Reading<'_>,
+    picker: &Picker<'_>,
+    event: &'a Event,
+    from: u64,
+) -> Result<(), Memory>
+    requires { IsRead reading.now }
+    ensures { OnOk result (all_now made.new.items ≡ all_now made.old.items ++ filter (is_early_by reading.now picker.now from) (event.now ∷ [])) }
+{
+    if is_kept(reading, picker, event) && !(from < event.id.at) {
+        made.push(event)?;
+    }
+    Ok(())
+}
+
+/// The keys of the member events of those who are named, the senders of these events and the heroes, where anyone is.
+pub(crate) fn named_keys<'b>(
+    alloc: Global,
+    named: bool,
+    events: &'b [&'b Event],
+    heroes: &'b Seq<Text>,
+) -> Result<Vec<StateKey<'b>>, Memory>
+    ensures { IfOk result (λ keys. named ≡ true → map key_pair keys.items ≡ map sender_pair (all_now events.now) ++ map hero_pair heroes.now) }
+{
+    let mut keys = Vec::new(alloc);
+    if named {
+        add_senders(&mut keys, events)?;
+        add_heroes(&mut keys, heroes)?;
+    }
+    Ok(keys)
+}
+
+fn add_senders<'b>(keys: &mut Vec<StateKey<'b>>, events: &'b [&'b Event]) -> Result<(), Memory>
+    ensures { OnOk result (map key_pair keys.new.items ≡ map key_pair keys.old.items ++ map sender_pair (all_now events.now)) }
+{
+    'events: for event in events {
+        keys.push(StateKey {
+            kind: MEMBER,
+            key: event.sender.as_str(),
+        })?;
+    }
+    Ok(())
+}
+
+fn add_heroes<'b>(keys: &mut Vec<StateKey<'b>>, heroes: &'b Seq<Text>) -> Result<(), Memory>
+    ensures { OnOk result (map key_pair keys.new.items ≡ map key_pair keys.old.items ++ map hero_pair heroes.now) }
+{
+    'heroes: for hero in heroes.as_slice() {
+        keys.push(StateKey {
+            kind: MEMBER,
+            key: hero.as_str(),
+        })?;
+    }
+    Ok(())
 }
 
 /// Whether a reply with lazy members names anyone: a sender of these events or a hero.

@@ -2,7 +2,7 @@ use Rattle.std.proofs.Common.{filter, ap, ◌∙◌}
 use Rattle.mx_snapshot.specs.Looks.{all_now}
 use Rattle.mx_parts.specs.Picks.{is_sent_by}
 use Rattle.mx_parts.proofs.Picked.{sent_states}
-use Rattle.mx_parts.proofs.state.state_part.Goals as goal
+use Rattle.mx_parts.proofs.state.looked_part.Goals as goal
 
 pub returns : goal.returns
 returns c =
