@@ -25,4 +25,4 @@ are_valid all (m ∷ marks) orderly lawful =
 
 -- what a pass has seen is orderly and lawful
 pub marks_valid : (p : EnginePass) (marks : List Mark) → AreValid (lists_of p) marks
-marks_valid p marks = are_valid (lists_of p) marks p.events.orderly p.events.lawful
+marks_valid p marks = are_valid (lists_of p) marks p.events.pass.orderly p.events.pass.lawful
