@@ -1,0 +1,4 @@
+pub mod Filters
+pub mod Rules
+pub mod Told
+pub mod Values

@@ -1,0 +1,12 @@
+//! What is read of a user's own data: stored filters, account data, tags and push rules.
+#![tactic(auto)]
+
+mod filters;
+mod objects;
+mod one_rule;
+mod rules;
+mod values;
+
+pub use filters::{filter_for, stored_filter};
+pub use rules::{push_rule, push_rules, rule_actions, rule_enabled};
+pub use values::{account_value, room_tags};

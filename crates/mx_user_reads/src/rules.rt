@@ -1,0 +1,120 @@
+//! A user's push rules.
+
+ghost use Rattle.std.specs.Prelude.{◌≡◌, IfOk, None, codes};
+ghost use Rattle.mx_rest.specs.Servers.{lists_of};
+ghost use Rattle.mx_rules.specs.Rules.{rules_of};
+ghost use Rattle.mx_rules.specs.Writing.{kinds_json};
+ghost use Rattle.mx_user_reads.specs.Rules.{push_rule, push_rules, rule_actions, rule_enabled, rules_now};
+
+use crate::objects::single;
+use crate::one_rule::{actions_of, enabled_of, rule_json};
+use crate::values::{PUSH_RULES, stored_value};
+use mx_ask::{Refusal, Said};
+use mx_ids::{Copied, Memory, Text, UserId};
+use mx_json::Json;
+use mx_rules::{Kind, RuleSet, defaults};
+use mx_snapshot::Snapshot;
+use std::alloc::Global;
+
+/// A user's push rules: those that are stored, or the default ones where none are (Client-Server API, Push rules,
+/// `GET /pushrules/`). With `inner` they are the value of `global` alone (`GET /pushrules/global/`). Takes the time of a
+/// look-up, and of the rules.
+pub fn push_rules(
+    alloc: Global,
+    snapshot: &Snapshot,
+    user: &UserId,
+    inner: bool,
+) -> Result<Said, Memory>
+    ensures { IfOk result (λ s. s ≡ push_rules (lists_of snapshot.now) user.now inner) }
+{
+    let rules = rules_now(alloc, snapshot, user)?;
+    if inner {
+        Ok(Said::Content(kinds_json(alloc, &rules)?))
+    } else {
+        Ok(Said::Content(rules.to_json(alloc)?))
+    }
+}
+
+/// A user's push rule of a kind and an id (Client-Server API, Push rules, `GET /pushrules/global/{kind}/{ruleId}`).
+///
+/// `NotFound` exactly where the kind has no rule of the id. Takes the time of a look-up, and of the rules.
+pub fn push_rule(
+    alloc: Global,
+    snapshot: &Snapshot,
+    user: &UserId,
+    kind: Kind,
+    id: &Text,
+) -> Result<Said, Memory>
+    ensures { IfOk result (λ s. s ≡ push_rule (lists_of snapshot.now) user.now kind id.now) }
+{
+    let rules = rules_now(alloc, snapshot, user)?;
+    match rule_json(alloc, &rules, kind, id)? {
+        Some(json) => Ok(Said::Content(json)),
+        None => Ok(Said::Refused(Refusal::NotFound)),
+    }
+}
+
+/// Whether a user's push rule of a kind and an id is enabled, in an object with the one key `enabled` (Client-Server API,
+/// Push rules, `GET /pushrules/global/{kind}/{ruleId}/enabled`).
+///
+/// `NotFound` exactly where the kind has no rule of the id. Takes the time of a look-up, and of the rules.
+pub fn rule_enabled(
+    alloc: Global,
+    snapshot: &Snapshot,
+    user: &UserId,
+    kind: Kind,
+    id: &Text,
+) -> Result<Said, Memory>
+    ensures { IfOk result (λ s. s ≡ rule_enabled (lists_of snapshot.now) user.now kind id.now) }
+{
+    let rules = rules_now(alloc, snapshot, user)?;
+    match enabled_of(&rules, kind, id) {
+        Some(enabled) => Ok(Said::Content(single(alloc, "enabled", Json::Bool(enabled))?)),
+        None => Ok(Said::Refused(Refusal::NotFound)),
+    }
+}
+
+/// The actions of a user's push rule of a kind and an id, in an object with the one key `actions` (Client-Server API, Push
+/// rules, `GET /pushrules/global/{kind}/{ruleId}/actions`).
+///
+/// `NotFound` exactly where the kind has no rule of the id. Takes the time of a look-up, and of the rules.
+pub fn rule_actions(
+    alloc: Global,
+    snapshot: &Snapshot,
+    user: &UserId,
+    kind: Kind,
+    id: &Text,
+) -> Result<Said, Memory>
+    ensures { IfOk result (λ s. s ≡ rule_actions (lists_of snapshot.now) user.now kind id.now) }
+{
+    let rules = rules_now(alloc, snapshot, user)?;
+    match actions_of(&rules, kind, id) {
+        Some(actions) => {
+            let actions = Json::List(actions.copy(alloc)?);
+            Ok(Said::Content(single(alloc, "actions", actions)?))
+        }
+        None => Ok(Said::Refused(Refusal::NotFound)),
+    }
+}
+
+/// The rules that are stored, or the default ones.
+fn rules_now(alloc: Global, snapshot: &Snapshot, user: &UserId) -> Result<RuleSet, Memory>
+    ensures { IfOk result (λ s. rules_of s ≡ rules_now (lists_of snapshot.now) user.now) }
+{
+    let stored = match stored_value(snapshot, user, None, PUSH_RULES) {
+        Some(content) => RuleSet::from_json(alloc, content)?,
+        None => None,
+    };
+    match stored {
+        Some(rules) => Ok(rules),
+        None => defaults(alloc, user),
+    }
+}
+
+/// The lists of the kinds, which are the value of `global`.
+fn kinds_json(alloc: Global, rules: &RuleSet) -> Result<Json, Memory>
+    ensures { IfOk result (λ j. j ≡ kinds_json (rules_of rules.now)) }
+{
+    let content = rules.to_json(alloc)?;
+    content.field("global").unwrap().copy(alloc)
+}
