@@ -1,0 +1,4 @@
+pub mod Looks
+pub mod Events
+pub mod Shown
+pub mod Laws
