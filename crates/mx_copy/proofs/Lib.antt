@@ -1,3 +1,10 @@
 mod Looks
 mod Events
 mod Folded
+mod Tests
+mod Receipts
+mod Pages
+mod Rooms
+mod Replies
+mod Once
+mod Written

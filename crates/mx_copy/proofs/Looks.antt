@@ -37,6 +37,10 @@ pub seen_back : {A : Type 0} (see : Json → Option A) (make : A → Json) → (
 seen_back see make back None = refl
 seen_back see make back (Some a) = ap (option_map Some) (back a)
 
+pub seen_as : {X A : Type 0} (see : Json → Option A) (make : X → Json) (copy : X → A) → ((x : X) → see (make x) ≡ Some (copy x)) → (o : Option X) → seen_if see (option_map make o) ≡ Some (option_map copy o)
+seen_as see make copy back None = refl
+seen_as see make copy back (Some x) = ap (option_map Some) (back x)
+
 -- at another key
 pub passed : (k key : List ℕ) (o : Option Json) (ms : List (Member Json)) → bytes_eq key k ≡ false → value_at k (member_if key o ++ ms) ≡ value_at k ms
 passed k key None ms other = refl
@@ -64,3 +68,11 @@ each_back see make copy back (x ∷ xs) =
 
 pub listed_back : {X A : Type 0} (see : Json → Option A) (make : X → Json) (copy : X → A) → ((x : X) → see (make x) ≡ Some (copy x)) → (xs : List X) → listed see (json.List (map make xs)) ≡ Some (map copy xs)
 listed_back see make copy back xs = ap (option_and_then (each see)) (list_back (map make xs)) ∙ each_back see make copy back xs
+
+-- items that are seen as they are
+map_same : {A : Type 0} (xs : List A) → map (λ x. x) xs ≡ xs
+map_same [] = refl
+map_same (x ∷ xs) = ap (λ rest. x ∷ rest) (map_same xs)
+
+pub listed_same : {A : Type 0} (see : Json → Option A) (make : A → Json) → ((a : A) → see (make a) ≡ Some a) → (xs : List A) → listed see (json.List (map make xs)) ≡ Some xs
+listed_same see make back xs = listed_back see make (λ x. x) back xs ∙ ap Some (map_same xs)

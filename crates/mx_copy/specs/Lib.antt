@@ -1,4 +1,9 @@
 pub mod Looks
 pub mod Events
 pub mod Shown
+pub mod Receipts
+pub mod Rooms
+pub mod Replies
+pub mod Pages
+pub mod Sent
 pub mod Laws

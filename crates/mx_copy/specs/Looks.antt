@@ -6,7 +6,6 @@ use Rattle.mx_json.specs.declared.members.Member.{Member}
 use Rattle.mx_json.specs.declared.value.Json.{Json}
 
 infixl 20 ◌>>=◌
-
 -- what comes of something, where it is there
 abbrev pub ◌>>=◌ : {A B : Type 0} → Option A → (A → Option B) → Option B
 ◌>>=◌ o f = option_and_then f o

@@ -1,8 +1,9 @@
 -- What an event has for a client, by its parts.
-use Rattle.std.specs.Prelude.{ℕ, Bool, List, [], min, ◌==◌, Option, Some, None, option_map, option_and_then, unwrap_or, if◌then◌else◌}
+use Rattle.std.specs.Prelude.{ℕ, Bool, List, [], min, ◌==◌, Option, Some, None, option_map, option_and_then, unwrap_or, codes, if◌then◌else◌}
 use Rattle.mx_ids.specs.Ids.{event_id_text, room_id_text}
+use Rattle.mx_json.specs.Fields.{field}
 use Rattle.mx_json.specs.Numbers.{largest}
-use Rattle.mx_event.specs.Forms.{redacts_of}
+use Rattle.mx_event.specs.Kinds.{is_redaction}
 use Rattle.mx_event.specs.declared.event.Event.{Event}
 use Rattle.mx_event.specs.declared.event.Shown.{Shown}
 use Rattle.mx_event.specs.declared.event.Txn.{Txn}
@@ -16,7 +17,7 @@ cut n = min n largest
 abbrev pub txn_seen : ℕ → Txn → Option (List ℕ)
 txn_seen device txn = if txn.device == device then Some txn.id else None
 
--- `server` is the name of the server
+-- `server` is the name of the server; a redaction repeats beside its content what it names
 module _ (server : List ℕ) (with_room : Bool) where
   abbrev pub plain_event : Event → PlainEvent
   plain_event e = record {
@@ -27,7 +28,7 @@ module _ (server : List ℕ) (with_room : Bool) where
     content = e.content;
     ts = cut e.ts;
     room = if with_room then Some (room_id_text server e.room) else None;
-    redacts = redacts_of e;
+    redacts = if is_redaction e then field (codes "redacts") e.content else None;
   }
 
   abbrev pub client_event : ℕ → Shown → ClientEvent

@@ -1,8 +1,32 @@
-//! The laws: what is read of the JSON is what was sent.
+//! The laws: what a client reads of the JSON is what was sent.
 
-ghost use Rattle.mx_copy.specs.Laws.{EventsReadBack};
+ghost use Rattle.mx_copy.specs.Laws.{EventsReadBack, OthersAreAbsent, PageTextsReadBack, PagesReadBack, RepliesHaveRoomsOnce, RepliesReadBack, ReplyTextsReadBack, RoomsAreFound};
 
 /// What a client reads of an event's JSON is the event as it is shown to its device.
 pub fn events_read_back()
     ensures { EventsReadBack }
+{}
+
+/// What a client reads of the JSON of a page is what the page has.
+pub fn pages_read_back()
+    ensures { PagesReadBack }
+{}
+
+/// What a client reads of the JSON of a reply to a sync is what the reply has: each member of each of its rooms.
+pub fn replies_read_back()
+    ensures { RepliesReadBack }
+{}
+
+/// The same of the texts that are sent, where the JSON may be written.
+pub fn texts_read_back()
+    ensures replies { ReplyTextsReadBack }
+    ensures pages { PageTextsReadBack }
+{}
+
+/// Under the text of a room's id a client finds what the reply has of the room, where no room stands twice; and none does.
+/// Under another text it finds nothing.
+pub fn rooms_are_found()
+    ensures found { RoomsAreFound }
+    ensures others { OthersAreAbsent }
+    ensures once { RepliesHaveRoomsOnce }
 {}

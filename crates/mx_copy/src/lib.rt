@@ -4,4 +4,6 @@
 
 mod laws;
 
-pub use laws::events_read_back;
+pub use laws::{
+    events_read_back, pages_read_back, replies_read_back, rooms_are_found, texts_read_back,
+};
