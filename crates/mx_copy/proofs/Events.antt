@@ -1,20 +1,19 @@
 -- What is read of an event's members.
-use Rattle.std.proofs.Common.{◌≡◌, ℕ, pos, Bool, true, false, List, [], ◌∷◌, ◌++◌, length, min, ◌==◌, Option, Some, None, option_map, option_and_then, unwrap_or, codes, if◌then◌else◌, refl, sym, ap, ap₂, ◌∙◌, arith}
+use Rattle.std.proofs.Common.{◌≡◌, ℕ, pos, Bool, true, false, List, [], ◌∷◌, ◌++◌, length, ◌==◌, Option, Some, None, option_map, option_and_then, unwrap_or, codes, if◌then◌else◌, refl, ap, ◌∙◌, arith}
 use Rattle.std.proofs.lemmas.Bool.Decides.{nat_tests}
 use Rattle.mx_ids.specs.Ids.{event_id_text, room_id_text}
 use Rattle.mx_json.specs.Fields.{text_of}
 use Rattle.mx_json.specs.Keys.{value_at}
-use Rattle.mx_json.specs.Numbers.{largest}
 use Rattle.mx_json.specs.declared.members.Member.{Member}
 use Rattle.mx_json.specs.declared.value.Json.{Json}
 use Rattle.mx_json.specs.declared.value.Json.TheVariants as json
-use Rattle.mx_event.specs.Forms.{bare_form, client_form, event_members, member, member_if, redacts_of, room_of, txn_for, unsigned_of}
+use Rattle.mx_event.specs.Forms.{bare_form, event_members, member, member_if, redacts_of, room_of, txn_for, unsigned_of}
 use Rattle.mx_event.specs.declared.event.Event.{Event}
 use Rattle.mx_event.specs.declared.event.Shown.{Shown}
 use Rattle.mx_event.specs.declared.event.Txn.{Txn}
-use Rattle.mx_copy.specs.Events.{ClientEvent, PlainEvent, event_in, event_of, plain_in, plain_of}
+use Rattle.mx_copy.specs.Events.{event_in, plain_in, plain_of}
 use Rattle.mx_copy.specs.Laws.{EventsReadBack}
-use Rattle.mx_copy.specs.Looks.{◌>>=◌, natural_of, object_of, read_at, read_if, seen_if}
+use Rattle.mx_copy.specs.Looks.{object_of, read_if, seen_if}
 use Rattle.mx_copy.specs.Shown.{client_event, cut, plain_event, txn_seen}
 use Rattle.mx_copy.proofs.Looks.{held, last_held, last_passed, natural_back, next, object_back, passed, seen_back, text_back}
 

@@ -1,15 +1,14 @@
 -- What the readers find.
-use Rattle.std.proofs.Common.{◌≡◌, ℕ, ℤ, pos, Bool, true, false, List, [], ◌∷◌, ◌++◌, map, Option, Some, None, option_map, option_and_then, if◌then◌else◌, refl, sym, ap, ap₂, ◌∙◌}
+use Rattle.std.proofs.Common.{◌≡◌, ℕ, pos, Bool, true, false, List, [], ◌∷◌, ◌++◌, map, Option, Some, None, option_map, option_and_then, if◌then◌else◌, refl, ap, ◌∙◌}
 use Rattle.std.specs.Str.{bytes_eq}
 use Rattle.mx_json.specs.Fields.{bool_in, bool_of, int_in, is_object_in, list_in, list_of, members_in, text_in, text_of}
 use Rattle.mx_json.specs.Keys.{value_at}
 use Rattle.mx_json.specs.declared.members.Member.{Member}
 use Rattle.mx_json.specs.declared.value.Json.{Json}
-use Rattle.mx_json.specs.declared.value.Json.TheOpen.{Json-F}
 use Rattle.mx_json.specs.declared.value.Json.TheVariants as json
 use Rattle.mx_json.specs.declared.value.Json.TheViews.{outs-Bool, outs-Int, outs-List, outs-Object, outs-Text}
-use Rattle.mx_event.specs.Forms.{member, member_if}
-use Rattle.mx_copy.specs.Looks.{◌>>=◌, each, listed, natural_in, natural_of, object_of, read_at, read_if, seen_if}
+use Rattle.mx_event.specs.Forms.{member_if}
+use Rattle.mx_copy.specs.Looks.{◌>>=◌, each, listed, natural_in, natural_of, object_of, seen_if}
 
 -- Values of the variants are seen as such.
 

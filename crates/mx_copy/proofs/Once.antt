@@ -1,5 +1,5 @@
 -- Rooms that stand once in a list, by their ids and by the texts of these.
-use Rattle.std.proofs.Common.{◌≡◌, ◌≢◌, ℕ, Bool, true, false, cond, T, not, ◌&&◌, ◌||◌, ◌==◌, List, [], ◌∷◌, map, fold, filter_map, Option, Some, None, option_map, Ordering, Less, Equal, Greater, is_lt, nat_cmp, if◌then◌else◌, refl, sym, ap, ap₂, subst, ◌∙◌, inl, inr}
+use Rattle.std.proofs.Common.{◌≡◌, ◌≢◌, ℕ, Bool, true, false, cond, T, not, ◌&&◌, ◌||◌, List, [], ◌∷◌, map, fold, filter_map, Option, Some, None, option_map, Less, Greater, is_lt, if◌then◌else◌, refl, sym, ap, ap₂, ◌∙◌, inl, inr}
 use Rattle.std.proofs.lemmas.Bool.{and_parts, cases_Bool, eq-eqb, or_parts}
 use Rattle.std.proofs.lemmas.Cmp.{nat_cmp_total, on_total, then_total}
 use Rattle.std.proofs.lemmas.Option.{same_Some}
@@ -31,12 +31,10 @@ use Rattle.mx_snapshot.specs.Lists.{room_cmp}
 use Rattle.mx_sync.specs.Reads.{find_room}
 use Rattle.mx_sync.specs.Replies.{invited_of, joined_of, left_of, said_by, said_of, told_of}
 use Rattle.mx_sync.specs.declared.room_reply.RoomReply.{RoomReply}
-use Rattle.mx_sync.specs.declared.room_reply.RoomReply.TheVariants as answer
 use Rattle.mx_sync.specs.declared.sync_reply.InvitedRoom.{InvitedRoom}
 use Rattle.mx_sync.specs.declared.sync_reply.JoinedRoom.{JoinedRoom}
 use Rattle.mx_sync.specs.declared.sync_reply.LeftRoom.{LeftRoom}
-use Rattle.mx_sync.specs.declared.sync_reply.Reply.{Reply}
-use Rattle.mx_copy.specs.Laws.{HasRoomsOnce, OthersAreAbsent, RepliesHaveRoomsOnce, RoomsAreFound, are_once}
+use Rattle.mx_copy.specs.Laws.{OthersAreAbsent, RepliesHaveRoomsOnce, RoomsAreFound, are_once}
 use Rattle.mx_copy.specs.Sent.{invited_sent, joined_sent, left_sent}
 use Rattle.mx_copy.proofs.Tests.{agree, none_passes}
 

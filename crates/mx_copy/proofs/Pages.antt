@@ -1,5 +1,5 @@
 -- What is read of a page.
-use Rattle.std.proofs.Common.{◌≡◌, ℕ, true, List, [], ◌∷◌, ◌++◌, map, Option, Some, None, option_map, option_and_then, codes, refl, ap, ◌∙◌}
+use Rattle.std.proofs.Common.{◌≡◌, ℕ, true, List, ◌∷◌, ◌++◌, map, Option, Some, option_map, option_and_then, codes, refl, ap, ◌∙◌}
 use Rattle.mx_ids.specs.Page.{page_text}
 use Rattle.mx_ids.specs.declared.page_token.PageToken.{PageToken}
 use Rattle.mx_json.specs.Fields.{text_of}
@@ -8,15 +8,13 @@ use Rattle.mx_json.specs.declared.members.Member.{Member}
 use Rattle.mx_json.specs.declared.value.Json.{Json}
 use Rattle.mx_json.specs.declared.value.Json.TheVariants as json
 use Rattle.mx_event.specs.Forms.{client_form, member, member_if}
-use Rattle.mx_event.specs.declared.event.Shown.{Shown}
 use Rattle.mx_pager.specs.Forms.{bound_text, events_form}
 use Rattle.mx_pager.specs.declared.asked.Bound.{Bound}
 use Rattle.mx_pager.specs.declared.asked.Bound.TheVariants as bound
-use Rattle.mx_pager.specs.declared.sent.Page.{Page}
 use Rattle.mx_copy.specs.Events.{ClientEvent, event_of}
 use Rattle.mx_copy.specs.Laws.{PagesReadBack}
 use Rattle.mx_copy.specs.Looks.{listed, seen_if}
-use Rattle.mx_copy.specs.Pages.{ClientPage, page_in}
+use Rattle.mx_copy.specs.Pages.{page_in}
 use Rattle.mx_copy.specs.Sent.{page_sent, place_text}
 use Rattle.mx_copy.specs.Shown.{client_event}
 use Rattle.mx_copy.proofs.Events.{events_read_back}

@@ -1,10 +1,10 @@
 -- Receipts that are read are those that were sent.
-use Rattle.std.proofs.Common.{◌≡◌, ℕ, pos, Bool, true, false, cond, ◌&&◌, min, List, [], ◌∷◌, ◌++◌, map, fold, filter, nat_eq, Option, Some, None, option_map, option_and_then, Ordering, Equal, is_eq, nat_cmp, codes, if◌then◌else◌, refl, sym, ap, ap₂, subst, ◌∙◌, inl, inr}
-use Rattle.std.proofs.lemmas.Bool.{and_parts, cases_Bool, eq-eqb, eqb-true}
+use Rattle.std.proofs.Common.{◌≡◌, ℕ, pos, Bool, true, false, cond, ◌&&◌, List, [], ◌∷◌, ◌++◌, filter, nat_eq, Option, Some, None, option_map, option_and_then, Equal, is_eq, nat_cmp, codes, refl, sym, ap, ap₂, subst, ◌∙◌}
+use Rattle.std.proofs.lemmas.Bool.{and_parts, eq-eqb, eqb-true}
 use Rattle.std.specs.Cmp.{unsigned_ties}
 use Rattle.std.proofs.lemmas.Cmp.{nat_cmp_total, nat_list_eq_equiv}
 use Rattle.std.proofs.lemmas.Slice.Eq.{bytes_eq-Decides}
-use Rattle.std.specs.List.{AllByRecursion, list_any}
+use Rattle.std.specs.List.{AllByRecursion}
 use Rattle.std.specs.Map.{values_of}
 use Rattle.std.specs.Option.{option_or}
 use Rattle.std.specs.Ordering.{eq_by_cmp}
@@ -14,9 +14,7 @@ use Rattle.mx_ids.specs.declared.event_id.EventId.{EventId}
 use Rattle.mx_ids.proofs.Ids.{same_event}
 use Rattle.mx_window.proofs.Each.{AllByRecursion-append, AllByRecursion-map}
 use Rattle.mx_window.specs.Lasts.{last_of}
-use Rattle.mx_window.proofs.Lasts.{last_of-map, last_of-none, last_of-same, last_of-some, none-last_of, option_or-none}
-use Rattle.mx_json.specs.Keys.{value_at}
-use Rattle.mx_json.specs.declared.members.Member.{Member}
+use Rattle.mx_window.proofs.Lasts.{last_of-same, last_of-some, option_or-none}
 use Rattle.mx_json.specs.declared.value.Json.{Json}
 use Rattle.mx_json.specs.declared.value.Json.TheVariants as json
 use Rattle.mx_event.specs.Forms.{member}
@@ -26,9 +24,9 @@ use Rattle.mx_receipt.specs.declared.receipt.ReceiptKind.{ReceiptKind}
 use Rattle.mx_receipt.specs.declared.receipt.ReceiptKind.TheVariants.{Read, Private}
 use Rattle.mx_fold.specs.Latest.{latest}
 use Rattle.mx_fold.proofs.Latest.{all_sorted, last_is_first, latest_are_last, latest_keyed}
-use Rattle.mx_sync_json.specs.Receipts.{content_form, event_at, is_kind, itself, kind_member, kinds_form, mark_form, of_event, users_form, with_event, with_mark}
-use Rattle.mx_copy.specs.Looks.{keyed, natural_of, object_of, read_at}
-use Rattle.mx_copy.specs.Receipts.{Marks, Nested, flat, is_of, kind_name, mark_of, marks_sent, nested_of}
+use Rattle.mx_sync_json.specs.Receipts.{content_form, event_at, is_kind, itself, kind_member, kinds_form, mark_form, of_event, users_form}
+use Rattle.mx_copy.specs.Looks.{keyed, natural_of, read_at}
+use Rattle.mx_copy.specs.Receipts.{Nested, flat, is_of, kind_name, mark_of, marks_sent, nested_of}
 use Rattle.mx_copy.specs.Shown.{cut}
 use Rattle.mx_copy.proofs.Folded.{IsSeen, keyed_back, keyed_from}
 use Rattle.mx_copy.proofs.Looks.{natural_back, object_back}

@@ -1,18 +1,12 @@
 -- What is read of a reply to a sync.
-use Rattle.std.proofs.Common.{◌≡◌, ℕ, List, [], ◌∷◌, fold, Option, Some, None, option_map, option_and_then, codes, refl, ap, ◌∙◌}
-use Rattle.std.specs.Str.{bytes_eq}
+use Rattle.std.proofs.Common.{option_and_then, refl, ap, ◌∙◌}
 use Rattle.mx_ids.specs.Ids.{room_id_text}
-use Rattle.mx_ids.specs.Sync.{sync_text}
-use Rattle.mx_json.specs.declared.value.Json.{Json}
-use Rattle.mx_json.specs.declared.value.Json.TheVariants as json
-use Rattle.mx_event.specs.Forms.{member}
 use Rattle.mx_sync.specs.declared.sync_reply.InvitedRoom.{InvitedRoom}
 use Rattle.mx_sync.specs.declared.sync_reply.JoinedRoom.{JoinedRoom}
 use Rattle.mx_sync.specs.declared.sync_reply.LeftRoom.{LeftRoom}
-use Rattle.mx_sync.specs.declared.sync_reply.Reply.{Reply}
 use Rattle.mx_sync_json.specs.Rooms.{invited_form, joined_form, left_form}
 use Rattle.mx_copy.specs.Laws.{RepliesReadBack}
-use Rattle.mx_copy.specs.Replies.{ClientReply, reply_in}
+use Rattle.mx_copy.specs.Replies.{reply_in}
 use Rattle.mx_copy.specs.Rooms.{invited_of, part_of, room_of}
 use Rattle.mx_copy.specs.Sent.{invited_sent, joined_sent, left_sent, reply_sent}
 use Rattle.mx_copy.proofs.Folded.{keyed_back}

@@ -1,7 +1,6 @@
 -- What is read of the rooms of a reply.
-use Rattle.std.proofs.Common.{◌≡◌, ℕ, Bool, false, List, [], ◌∷◌, map, Option, Some, None, option_map, option_and_then, codes, refl, sym, ap, ◌∙◌}
-use Rattle.mx_ids.specs.Page.{page_text}
-use Rattle.mx_json.specs.Fields.{bool_of, text_of}
+use Rattle.std.proofs.Common.{◌≡◌, ℕ, false, List, [], ◌∷◌, map, Option, Some, None, option_map, option_and_then, codes, refl, ap, ◌∙◌}
+use Rattle.mx_json.specs.Fields.{text_of}
 use Rattle.mx_json.specs.Keys.{value_at}
 use Rattle.mx_json.specs.declared.members.Member.{Member}
 use Rattle.mx_json.specs.declared.value.Json.{Json}
@@ -21,14 +20,14 @@ use Rattle.mx_sync_json.specs.Objects.{account_form, counts_form, data_form, eve
 use Rattle.mx_sync_json.specs.Receipts.{content_form, ephemeral_form}
 use Rattle.mx_sync_json.specs.Rooms as forms
 use Rattle.mx_sync_json.specs.Rooms.{account_of, bare_form, invited_form, joined_form, left_form, receipts_of, state_form, stripped_form, timeline_form}
-use Rattle.mx_copy.specs.Events.{ClientEvent, StrippedEvent, event_of, stripped_in, stripped_of}
-use Rattle.mx_copy.specs.Looks.{◌>>=◌, each, listed, natural_of, object_of, read_at, read_if}
-use Rattle.mx_copy.specs.Receipts.{Marks, flat, joined_marks, marks_by, marks_sent, nested_of}
-use Rattle.mx_copy.specs.Rooms.{ClientCounts, ClientPart, ClientRoom, ClientSummary, counts_in, counts_of, events_of, invited_of, marks_of, part_in, part_of, room_in, room_of, summary_in, summary_of, typed_in, typed_of}
+use Rattle.mx_copy.specs.Events.{event_of, stripped_in, stripped_of}
+use Rattle.mx_copy.specs.Looks.{◌>>=◌, each, listed, object_of, read_at}
+use Rattle.mx_copy.specs.Receipts.{Marks, joined_marks, marks_by, marks_sent}
+use Rattle.mx_copy.specs.Rooms.{ClientPart, ClientRoom, counts_in, counts_of, events_of, invited_of, marks_of, part_in, part_of, room_in, room_of, summary_in, summary_of, typed_in, typed_of}
 use Rattle.mx_copy.specs.Sent.{counts_sent, invited_sent, joined_sent, left_sent, part_sent, summary_sent, with_rest}
 use Rattle.mx_copy.specs.Shown.{client_event, cut, stripped_event}
 use Rattle.mx_copy.proofs.Events.{events_read_back}
-use Rattle.mx_copy.proofs.Looks.{bool_back, each_back, list_back, listed_back, listed_same, natural_back, next, object_back, text_back}
+use Rattle.mx_copy.proofs.Looks.{bool_back, list_back, listed_back, listed_same, natural_back, next, object_back, text_back}
 use Rattle.mx_copy.proofs.Receipts.{content_back}
 
 -- an object of events

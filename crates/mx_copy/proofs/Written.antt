@@ -1,5 +1,5 @@
 -- What is read of the texts.
-use Rattle.std.proofs.Common.{◌≡◌, List, Option, Some, option_and_then, ap, ◌∙◌}
+use Rattle.std.proofs.Common.{◌≡◌, Option, Some, option_and_then, ap, ◌∙◌}
 use Rattle.std.specs.Result.{result_ok}
 use Rattle.mx_json.specs.Texts.{json_text}
 use Rattle.mx_json.specs.declared.value.Json.{Json}

@@ -3,8 +3,6 @@ use Rattle.std.specs.Prelude.{ℕ, Bool, ◌&&◌, List, [], ◌∷◌, Option, 
 use Rattle.std.specs.Option.{option_or}
 use Rattle.std.specs.Str.{bytes_eq}
 use Rattle.mx_ids.specs.Ids.{event_id_text}
-use Rattle.mx_json.specs.Fields.{text_of}
-use Rattle.mx_json.specs.declared.members.Member.{Member}
 use Rattle.mx_json.specs.declared.value.Json.{Json}
 use Rattle.mx_receipt.specs.declared.receipt.Receipt.{Receipt}
 use Rattle.mx_receipt.specs.declared.receipt.ReceiptKind.{ReceiptKind}

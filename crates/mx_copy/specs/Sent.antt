@@ -4,15 +4,11 @@ use Rattle.std.specs.Str.{bytes_eq}
 use Rattle.mx_ids.specs.Ids.{room_id_text}
 use Rattle.mx_ids.specs.Page.{page_text}
 use Rattle.mx_ids.specs.Sync.{sync_text}
-use Rattle.mx_ids.specs.declared.page_token.PageToken.{PageToken}
-use Rattle.mx_json.specs.declared.value.Json.{Json}
-use Rattle.mx_event.specs.declared.event.Shown.{Shown}
 use Rattle.mx_lazy.specs.declared.room_summary.Summary.{Summary}
 use Rattle.mx_pager.specs.declared.asked.Bound.{Bound}
 use Rattle.mx_pager.specs.declared.asked.Bound.TheVariants as bound
 use Rattle.mx_pager.specs.declared.sent.Page.{Page}
 use Rattle.mx_parts.specs.declared.part.RoomPart.{RoomPart}
-use Rattle.mx_receipt.specs.declared.receipt.Receipt.{Receipt}
 use Rattle.mx_sync.specs.declared.sync_reply.InvitedRoom.{InvitedRoom}
 use Rattle.mx_sync.specs.declared.sync_reply.JoinedRoom.{JoinedRoom}
 use Rattle.mx_sync.specs.declared.sync_reply.LeftRoom.{LeftRoom}
