@@ -19,13 +19,13 @@ use Rattle.mx_copy.proofs.Looks.{held, last_held, last_passed, natural_back, nex
 
 -- members that stand in an event, some of them optional
 module _ (content : Json) (id : List ℕ) (ts : ℕ) (sender kind : List ℕ) (redacts room key unsigned : Option Json) where
-  abbrev behind_sender : List (Member Json)
+  abbrev pub behind_sender : List (Member Json)
   behind_sender = member_if (codes "state_key") key ++ (member (codes "type") (json.Text kind) ∷ member_if (codes "unsigned") unsigned)
 
-  abbrev behind_redacts : List (Member Json)
+  abbrev pub behind_redacts : List (Member Json)
   behind_redacts = member_if (codes "room_id") room ++ (member (codes "sender") (json.Text sender) ∷ behind_sender)
 
-  abbrev members : List (Member Json)
+  abbrev pub members : List (Member Json)
   members =
       member (codes "content") content
       ∷ member (codes "event_id") (json.Text id)

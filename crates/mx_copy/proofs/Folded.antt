@@ -9,10 +9,12 @@ use Rattle.std.specs.Option.{option_or}
 use Rattle.std.specs.Str.{bytes_eq}
 use Rattle.mx_window.specs.Lasts.{last_of}
 use Rattle.mx_window.proofs.Lasts.{option_or-none}
-use Rattle.mx_json.specs.Keys.{set_before, value_at, with_member}
+use Rattle.mx_json.specs.Keys.{are_ordered, keys_of, set_before, value_at, with_member}
 use Rattle.mx_json.specs.declared.members.Member.{Member}
 use Rattle.mx_json.specs.declared.value.Json.{Json}
 use Rattle.mx_json.specs.declared.value.Json.TheVariants as json
+use Rattle.mx_json.proofs.Search.{set_ordered}
+use Rattle.mx_copy.proofs.Tests.{everywhere}
 use Rattle.mx_copy.specs.Looks.{each, keyed, read_at, values_of}
 use Rattle.mx_copy.proofs.Looks.{object_back}
 
@@ -50,12 +52,12 @@ at_key {V = V} q k v (m ∷ ms) = by_order (slice_cmp nat_cmp k m.key) refl (at_
     by_order Greater is rest = ap (cond (bytes_eq m.key q) (Some m.value)) rest
         ∙ swapped (bytes_eq k q) (bytes_eq m.key q) (Some v) (Some m.value) (value_at q ms) (other_test k m.key q is)
 
--- what holds of each value holds after one was put in of which it holds
-all_values : {V : Type 0} (P : V → Type 0) (k : List ℕ) (v : V) (ms : List (Member V)) → P v → AllByRecursion (λ m. P m.value) ms → AllByRecursion (λ m. P m.value) (with_member k v ms)
-all_values P k v [] is all = (is, tt)
-all_values {V = V} P k v (m ∷ ms) is all = by_order (slice_cmp nat_cmp k m.key) (all_values P k v ms is all.1)
+-- what holds of each member holds after one was put in of which it holds
+all_members : {V : Type 0} (P : Member V → Type 0) (k : List ℕ) (v : V) (ms : List (Member V)) → P (record { key = k; value = v }) → AllByRecursion P ms → AllByRecursion P (with_member k v ms)
+all_members P k v [] is all = (is, tt)
+all_members {V = V} P k v (m ∷ ms) is all = by_order (slice_cmp nat_cmp k m.key) (all_members P k v ms is all.1)
   where
-    by_order : (o : Ordering) → AllByRecursion (λ m. P m.value) (with_member k v ms) → AllByRecursion (λ m. P m.value) (set_before o k v m ms (with_member k v ms))
+    by_order : (o : Ordering) → AllByRecursion P (with_member k v ms) → AllByRecursion P (set_before o k v m ms (with_member k v ms))
     by_order Less rest = (is, all)
     by_order Equal rest = (is, all.1)
     by_order Greater rest = (all.0, rest)
@@ -76,9 +78,14 @@ module _ {X V : Type 0} (key : X → List ℕ) (make : X → V) where
       step None true = refl
       step None false = refl
 
-  pub all_folded : (P : V → Type 0) → ((x : X) → P (make x)) → (ms : List (Member V)) (xs : List X) → AllByRecursion (λ m. P m.value) ms → AllByRecursion (λ m. P m.value) (fold put ms xs)
-  all_folded P holds ms [] all = all
-  all_folded P holds ms (x ∷ xs) all = all_folded P holds (put ms x) xs (all_values P (key x) (make x) ms (holds x) all)
+  pub all_folded : (Q : X → Type 0) (P : Member V → Type 0) → ((x : X) → Q x → P (record { key = key x; value = make x })) → (ms : List (Member V)) (xs : List X)
+      → AllByRecursion P ms → AllByRecursion Q xs → AllByRecursion P (fold put ms xs)
+  all_folded Q P holds ms [] all items = all
+  all_folded Q P holds ms (x ∷ xs) all items = all_folded Q P holds (put ms x) xs (all_members P (key x) (make x) ms (holds x items.0) all) items.1
+
+  pub ordered_folded : (ms : List (Member V)) (xs : List X) → are_ordered (keys_of ms) ≡ true → are_ordered (keys_of (fold put ms xs)) ≡ true
+  ordered_folded ms [] order = order
+  ordered_folded ms (x ∷ xs) order = ordered_folded (put ms x) xs (set_ordered (key x) (make x) ms order)
 
 -- something is seen in a value
 abbrev pub IsSeen : {A : Type 0} → (Json → Option A) → Json → Type 0
@@ -105,4 +112,4 @@ module _ {X A : Type 0} (see : Json → Option A) (key : X → List ℕ) (make :
       seen (Some x) = back x
 
   pub keyed_back : (xs : List X) → keyed see (json.Object (fold (put key make) [] xs)) ≡ Some (λ q. option_map copy (last_of (λ x. bytes_eq (key x) q) xs))
-  keyed_back xs = keyed_from see (fold (put key make) [] xs) (all_folded key make (IsSeen see) (λ x. (copy x, back x)) [] xs tt) ∙ (λ i. Some (λ q. read_folded q xs i))
+  keyed_back xs = keyed_from see (fold (put key make) [] xs) (all_folded key make (λ x. Unit {0}) (λ m. IsSeen see m.value) (λ x at. (copy x, back x)) [] xs tt (everywhere (λ x. tt) xs)) ∙ (λ i. Some (λ q. read_folded q xs i))

@@ -8,3 +8,8 @@ mod Rooms
 mod Replies
 mod Once
 mod Written
+mod Fitting
+mod FitTexts
+mod FitEvents
+mod FitRooms
+mod FitReplies

@@ -21,7 +21,7 @@ use Rattle.mx_copy.proofs.Events.{events_read_back}
 use Rattle.mx_copy.proofs.Looks.{held, last_held, last_passed, listed_back, next, object_back, passed, seen_as, text_back}
 
 module _ (chunk : List Json) (start : List ℕ) (end state : Option Json) where
-  abbrev members : List (Member Json)
+  abbrev pub members : List (Member Json)
   members =
       member (codes "chunk") (json.List chunk)
       ∷ (member_if (codes "end") end ++ (member (codes "start") (json.Text start) ∷ member_if (codes "state") state))

@@ -6,9 +6,10 @@ use Rattle.mx_json.specs.declared.value.Json.{Json}
 use Rattle.mx_json.proofs.ReadBack.{reads_back}
 use Rattle.mx_pager.specs.Forms.{page_form}
 use Rattle.mx_sync_json.specs.Replies.{reply_form}
-use Rattle.mx_copy.specs.Laws.{IsWritable, PageTextsReadBack, ReplyTextsReadBack, read_text}
+use Rattle.mx_copy.specs.Laws.{PageTextsReadBack, ReplyTextsReadBack, read_text}
 use Rattle.mx_copy.specs.Pages.{page_of}
 use Rattle.mx_copy.specs.Replies.{reply_of}
+use Rattle.mx_copy.specs.Writable.{IsWritable}
 use Rattle.mx_copy.proofs.Pages.{pages_read_back}
 use Rattle.mx_copy.proofs.Replies.{replies_read_back}
 

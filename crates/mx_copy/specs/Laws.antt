@@ -1,15 +1,11 @@
 -- What a client reads of the JSON is what was sent.
-use Rattle.std.specs.Prelude.{◌≡◌, ◌≢◌, ◌≤◌, ℕ, Bool, true, not, ◌&&◌, List, [], ◌∷◌, Option, Some, None, option_map}
+use Rattle.std.specs.Prelude.{◌≡◌, ◌≢◌, ℕ, Bool, true, not, ◌&&◌, List, [], ◌∷◌, Option, Some, None, option_map}
 use Rattle.std.specs.List.{list_any}
 use Rattle.std.specs.Result.{result_ok}
-use Rattle.serde_json.specs.Data.{depth}
-use Rattle.serde_json.specs.Read.{max_depth}
 use Rattle.mx_ids.specs.Ids.{room_id_text}
 use Rattle.mx_ids.specs.declared.room_id.RoomId.{RoomId}
-use Rattle.mx_json.specs.Laws.{IsInRange, is_formed}
 use Rattle.mx_json.specs.Reading.{read_json}
 use Rattle.mx_json.specs.Texts.{json_text}
-use Rattle.mx_json.specs.Values.{data_of}
 use Rattle.mx_json.specs.declared.value.Json.{Json}
 use Rattle.mx_event.specs.Forms.{client_form}
 use Rattle.mx_event.specs.Lawful.{same_room}
@@ -31,6 +27,7 @@ use Rattle.mx_copy.specs.Pages.{page_of}
 use Rattle.mx_copy.specs.Replies.{reply_of}
 use Rattle.mx_copy.specs.Sent.{invited_sent, joined_sent, left_sent, page_sent, reply_sent}
 use Rattle.mx_copy.specs.Shown.{client_event}
+use Rattle.mx_copy.specs.Writable.{IsWritable, PageFits, ReplyFits}
 
 -- each event, whatever the device
 abbrev pub EventsReadBack : Type 0
@@ -50,17 +47,18 @@ PagesReadBack = (server : List ℕ) (device : ℕ) (p : Page) → page_of (page_
 abbrev pub read_text : {A : Type 0} → (Json → Option A) → List ℕ → Option A
 read_text see text = result_ok (read_json text) >>= see
 
--- a value whose text reads back: its numbers are in range, its texts are UTF-8, its keys are in order, and it nests at most 127 deep
-pub record IsWritable (j : Json) : Type 0 where
-  pub in_range : IsInRange j
-  pub formed : is_formed (data_of j) ≡ true
-  pub shallow : depth (data_of j) ≤ max_depth
-
 abbrev pub ReplyTextsReadBack : Type 0
 ReplyTextsReadBack = (server : List ℕ) (device : ℕ) (r : Reply) → IsWritable (reply_form server device r) → read_text reply_of (json_text (reply_form server device r)) ≡ Some (reply_sent server device r)
 
 abbrev pub PageTextsReadBack : Type 0
 PageTextsReadBack = (server : List ℕ) (device : ℕ) (p : Page) → IsWritable (page_form server device p) → read_text page_of (json_text (page_form server device p)) ≡ Some (page_sent server device p)
+
+-- replies and pages whose JSON may be written
+abbrev pub RepliesMayBeWritten : Type 0
+RepliesMayBeWritten = (server : List ℕ) (device : ℕ) (r : Reply) → ReplyFits server r → IsWritable (reply_form server device r)
+
+abbrev pub PagesMayBeWritten : Type 0
+PagesMayBeWritten = (server : List ℕ) (device : ℕ) (p : Page) → PageFits server p → IsWritable (page_form server device p)
 
 -- ---- rooms by their ids
 

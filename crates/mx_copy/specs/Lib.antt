@@ -6,4 +6,5 @@ pub mod Rooms
 pub mod Replies
 pub mod Pages
 pub mod Sent
+pub mod Writable
 pub mod Laws

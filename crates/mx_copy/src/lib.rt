@@ -5,5 +5,6 @@
 mod laws;
 
 pub use laws::{
-    events_read_back, pages_read_back, replies_read_back, rooms_are_found, texts_read_back,
+    events_read_back, may_be_written, pages_read_back, replies_read_back, rooms_are_found,
+    texts_read_back,
 };
