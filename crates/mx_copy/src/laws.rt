@@ -30,7 +30,7 @@ pub fn may_be_written()
     ensures pages { PagesMayBeWritten }
 {}
 
-/// Under the text of a room's id a client finds what the reply has of the room, where no room stands twice; and none does.
+/// Under the text of a room's id a client finds what the reply has of the room, where no room stands twice; a reply has none twice.
 /// Under another text it finds nothing.
 pub fn rooms_are_found()
     ensures found { RoomsAreFound }
