@@ -133,6 +133,10 @@ pub enum Ask {
         filter: FilterAsk,
         full_state: bool,
     },
+    /// To store a filter (`POST /user/{userId}/filter`).
+    PutFilter {
+        filter: Json,
+    },
     /// A stored filter (`GET /user/{userId}/filter/{filterId}`).
     GetFilter {
         id: Text,
@@ -170,6 +174,16 @@ pub enum Ask {
         room: Text,
         kind: Option<ReceiptKind>,
         event: Text,
+    },
+    /// To mark up to which events of a room the caller has read (`POST /rooms/{roomId}/read_markers`).
+    ReadMarkers {
+        room: Text,
+        /// The event of `m.fully_read`.
+        fully_read: Option<Text>,
+        /// The event of `m.read`.
+        read: Option<Text>,
+        /// The event of `m.read.private`.
+        private: Option<Text>,
     },
     /// All push rules (`GET /pushrules/`), or those of the global set alone (`GET /pushrules/global/`).
     PushRules {
