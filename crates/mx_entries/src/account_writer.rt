@@ -1,8 +1,8 @@
 //! The writer of account data.
 
-ghost use Rattle.std.specs.Prelude.{◌≡◌, [], ◌∷◌, IfOk};
+ghost use Rattle.std.specs.Prelude.{◌≡◌, [], ◌∷◌, IfOk, take};
 ghost use Rattle.mx_core.specs.History.{items_of};
-ghost use Rattle.mx_entries.specs.Decided.{data_of, filter_stored, rules_decided, rules_stored, stored, tag_ended, tags_stored};
+ghost use Rattle.mx_entries.specs.Decided.{data_of, filter_stored, filters_kept, rules_decided, rules_stored, stored, tag_ended, tags_stored};
 ghost use Rattle.mx_entries.specs.Own.{tagged};
 ghost use Rattle.mx_entries.specs.RuleChanges.{rules_of_user};
 ghost use Rattle.mx_account.specs.Tags.{with_tag};
@@ -14,7 +14,7 @@ use crate::rules::changed_content;
 use crate::shelf::Shelf;
 use crate::tags::{has_tag, tagged};
 use mx_account::{Entry, with_tag, without_tag};
-use mx_core::Prepared;
+use mx_core::{Prepared, Stored};
 use mx_ids::{Memory, RoomId, Seq, Text, UserId};
 use mx_json::Json;
 use mx_writers::{Folds, Made, Unmade};
@@ -58,6 +58,7 @@ impl Folds for Accounts {
                 content,
             } => self.store(alloc, data(user, room, kind, content)),
             EntryDraft::Filter { user, filter } => self.put_filter(alloc, user, filter),
+            EntryDraft::Filters { user, stores } => self.count_filters(&user, stores),
             EntryDraft::Tag {
                 user,
                 room,
@@ -104,6 +105,14 @@ impl Accounts {
             at: 0,
         };
         self.store(alloc, entry)
+    }
+
+    /// Answers the number of a user's filters among the first so many stores.
+    fn count_filters(&self, user: &UserId, stores: u64) -> Result<Made<Entry>, Unmade<EntryFault>>
+        ensures decided { Prepares (filters_kept user.now stores self.now.shelf.stores.items) result self.now.shelf.pending }
+    {
+        let stores = first_of(self.shelf.stores.as_slice(), stores);
+        Ok(Made::Kept(filters_of(stores, user)?))
     }
 
     fn put_tag(
@@ -183,6 +192,16 @@ impl Accounts {
     {
         let kind = text(alloc, "m.push_rules")?;
         self.store(alloc, data(user, None, kind, content))
+    }
+}
+
+/// The first so many stores. Takes no memory.
+fn first_of(stores: &[Stored<Entry>], count: u64) -> &[Stored<Entry>]
+    ensures { result.now ≡ take count stores.now }
+{
+    match usize::try_from(count) {
+        Ok(count) if count < stores.len() => &stores[..count],
+        _ => stores,
     }
 }
 
