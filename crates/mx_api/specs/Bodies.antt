@@ -7,6 +7,7 @@ use Rattle.mx_json.specs.declared.fault.JsonFault.{JsonFault}
 use Rattle.mx_json.specs.declared.fault.JsonFault.TheVariants as fault
 use Rattle.mx_json.specs.declared.value.Json.{Json}
 use Rattle.mx_json.specs.declared.value.Json.TheVariants as json
+use Rattle.mx_api.specs.Calls.{and_then}
 use Rattle.mx_api.specs.declared.refused.Field.TheVariants as field
 use Rattle.mx_api.specs.declared.refused.Refused.{Refused}
 use Rattle.mx_api.specs.declared.refused.Refused.TheVariants as refused
@@ -15,16 +16,20 @@ abbrev pub object_in : Json → Result Json Refused
 object_in j = if is_object j then Ok j else Err (refused.BadShape (field.Creation body.Body))
 
 -- by what a text is read as; that is never `Memory`
-abbrev pub object_by : Result Json JsonFault → Result Json Refused
-object_by (Ok j) = object_in j
-object_by (Err fault.NotJson) = Err refused.NotJson
-object_by (Err fault.Fraction) = Err refused.Fraction
-object_by (Err fault.IntegerRange) = Err refused.IntegerRange
-object_by (Err fault.Memory) = Err refused.NotJson
+abbrev pub json_by : Result Json JsonFault → Result Json Refused
+json_by (Ok j) = Ok j
+json_by (Err fault.NotJson) = Err refused.NotJson
+json_by (Err fault.Fraction) = Err refused.Fraction
+json_by (Err fault.IntegerRange) = Err refused.IntegerRange
+json_by (Err fault.Memory) = Err refused.NotJson
+
+-- the value that a text is
+unfoldable pub json_of : List ℕ → Result Json Refused
+json_of bytes = json_by (read_json bytes)
 
 -- the object that a body is
 unfoldable pub object_of : List ℕ → Result Json Refused
-object_of bytes = object_by (read_json bytes)
+object_of bytes = and_then object_in (json_of bytes)
 
 -- that of a `POST`, where the empty body counts as the empty object
 abbrev pub posted : List ℕ → Result Json Refused

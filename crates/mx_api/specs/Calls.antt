@@ -5,9 +5,9 @@ use Rattle.mx_ids.specs.declared.users.Users.{Users}
 use Rattle.mx_http.specs.Paths.{decoded_parts}
 use Rattle.mx_http.specs.Queries.{access_token, parameters, path_of, query_of}
 use Rattle.mx_http.specs.declared.call.Call.{Call}
-use Rattle.mx_engine.specs.Shown.{IsAsk}
-use Rattle.mx_engine.specs.declared.ask.Ask.{Ask}
-use Rattle.mx_engine.specs.declared.ask.Who.{Who}
+use Rattle.mx_ask.specs.Asks.{IsAsk}
+use Rattle.mx_ask.specs.declared.ask.Ask.{Ask}
+use Rattle.mx_ask.specs.declared.ask.Who.{Who}
 use Rattle.mx_users.specs.Finds.{caller_of}
 use Rattle.mx_api.specs.declared.asked.Asked.{Asked}
 use Rattle.mx_api.specs.declared.asked.Asked.TheVariants as asked

@@ -2,4 +2,6 @@ pub mod Bodies
 pub mod Calls
 pub mod Errors
 pub mod Parts
+pub mod Queries
 pub mod Routing
+pub mod Tokens

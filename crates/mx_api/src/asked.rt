@@ -1,7 +1,7 @@
 //! What a call asks.
 
 use crate::refused::Refused;
-use mx_engine::Request;
+use mx_ask::Request;
 
 /// What a call asks, as the routes of one crate read it.
 #[derive(Drop)]

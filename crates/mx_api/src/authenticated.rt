@@ -5,7 +5,7 @@ ghost use Rattle.mx_api.specs.Calls.{authenticated, caller_in, with_parts};
 
 use crate::parts::parts_behind;
 use crate::refused::Refused;
-use mx_engine::Who;
+use mx_ask::Who;
 use mx_http::{Call, access_token, path, query};
 use mx_ids::{Copied, Memory, Seq, Text};
 use mx_users::Directory;

@@ -1,7 +1,7 @@
 //! The body of a call as an object.
 ghost use Rattle.std.specs.Prelude.{◌≡◌, IfOk};
 ghost use Rattle.mx_json.specs.Fields.{text_at};
-ghost use Rattle.mx_api.specs.Bodies.{object_in, object_of, posted};
+ghost use Rattle.mx_api.specs.Bodies.{json_of, object_in, object_of, posted};
 
 use crate::refused::{Field, Refused};
 use mx_create::BodyField;
@@ -9,14 +9,26 @@ use mx_ids::{Copied, Memory, Text};
 use mx_json::{Json, JsonFault, Members, read};
 use std::alloc::Global;
 
-/// The object that a body is. The first refusal that applies: `NotJson`, `Fraction` or `IntegerRange` as `mx_json::read`
-/// gives them, `BadShape` where the value is no object.
+/// The object that a body is. The first refusal that applies: those of `json_value`, and `BadShape` where the value is no
+/// object.
 #[tactic(auto, unfolding(crate::specs::Bodies::object_of))]
 pub fn object_body(alloc: Global, body: &[u8]) -> Result<Result<Json, Refused>, Memory>
     ensures { IfOk result (λ r. r ≡ object_of body.now) }
 {
-    match read(alloc, body) {
+    match json_value(alloc, body)? {
         Ok(json) => Ok(object(json)),
+        Err(refused) => Ok(Err(refused)),
+    }
+}
+
+/// The value that a text is: that of a body, or of a filter in a query. The first refusal that applies: `NotJson`,
+/// `Fraction` or `IntegerRange` as `mx_json::read` gives them.
+#[tactic(auto, unfolding(crate::specs::Bodies::json_of))]
+pub fn json_value(alloc: Global, bytes: &[u8]) -> Result<Result<Json, Refused>, Memory>
+    ensures { IfOk result (λ r. r ≡ json_of bytes.now) }
+{
+    match read(alloc, bytes) {
+        Ok(json) => Ok(Ok(json)),
         Err(JsonFault::NotJson) => Ok(Err(Refused::NotJson)),
         Err(JsonFault::Fraction) => Ok(Err(Refused::Fraction)),
         Err(JsonFault::IntegerRange) => Ok(Err(Refused::IntegerRange)),

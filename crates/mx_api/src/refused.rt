@@ -15,19 +15,39 @@ pub enum Parameter {
     FullState,
     Timeout,
     Filter,
+    Dir,
+    From,
+    To,
+    Limit,
+    Before,
+    After,
 }
 
-/// What of a body isn't of its form.
-#[derive(Clone, Copy, Debug, PartialEq, Eq)]
+/// What of a body or of a filter isn't of its form.
+#[derive(Debug, Drop)]
 pub enum Field {
     /// The text `user_id` of a membership call.
     UserId,
     /// What the body of a room's creation has wrong, or that a body is no object.
     Creation(BodyField),
+    /// The text `m.fully_read` of a call that sets read markers.
+    FullyRead,
+    /// The text `m.read` of such a call.
+    Read,
+    /// The text `m.read.private` of such a call.
+    ReadPrivate,
+    /// The truth value `enabled` of a push rule.
+    Enabled,
+    /// The list `actions` of a push rule.
+    Actions,
+    /// The object `content`.
+    Content,
+    /// The field at this path: keys that are joined by dots.
+    Path(Text),
 }
 
 /// Why a call is refused before an engine is asked, in the order in which the causes are judged.
-#[derive(Clone, Copy, Debug, PartialEq, Eq)]
+#[derive(Debug, Drop)]
 pub enum Refused {
     /// No route has the path.
     NoPath,
@@ -37,20 +57,24 @@ pub enum Refused {
     NoToken,
     /// No device has the access token.
     UnknownToken,
-    /// A part of the path isn't UTF-8.
+    /// A part of the path isn't UTF-8, or is none of the words that may stand there.
     BadPath,
     /// The path names another user than the caller.
     NotCaller,
+    /// The query lacks a parameter that has to be there.
+    MissingParameter(Parameter),
     /// The value of a parameter isn't of its form.
     BadParameter(Parameter),
-    /// The body isn't JSON.
+    /// The body, or the filter of the query, isn't JSON.
     NotJson,
-    /// A number of the body isn't whole.
+    /// A number of it isn't whole.
     Fraction,
-    /// A number of the body is outside plus or minus 9,007,199,254,740,991.
+    /// A number of it is outside plus or minus 9,007,199,254,740,991.
     IntegerRange,
-    /// The body isn't of its form.
+    /// It isn't of its form.
     BadShape(Field),
+    /// A filter asks for the event format `federation`.
+    EventFormat,
     /// The type is one that clients don't put.
     OwnType,
 }
@@ -65,28 +89,41 @@ impl Parameter {
             Parameter::FullState => "full_state",
             Parameter::Timeout => "timeout",
             Parameter::Filter => "filter",
+            Parameter::Dir => "dir",
+            Parameter::From => "from",
+            Parameter::To => "to",
+            Parameter::Limit => "limit",
+            Parameter::Before => "before",
+            Parameter::After => "after",
         }
     }
 }
 
 impl Field {
-    /// The name of the field; `body` where the body is no object.
-    pub fn name(self) -> &'static str
-        ensures { result.now ≡ field_name self }
+    /// The name of the field, or its path; `body` where the body is no object.
+    pub fn name(&self) -> &str
+        ensures { result.now ≡ field_name self.now }
     {
         match self {
             Field::UserId => "user_id",
             Field::Creation(BodyField::Body) => "body",
             Field::Creation(BodyField::InitialState) => "initial_state",
             Field::Creation(BodyField::Invite) => "invite",
+            Field::FullyRead => "m.fully_read",
+            Field::Read => "m.read",
+            Field::ReadPrivate => "m.read.private",
+            Field::Enabled => "enabled",
+            Field::Actions => "actions",
+            Field::Content => "content",
+            Field::Path(path) => path.as_str(),
         }
     }
 }
 
 impl Refused {
     /// The status of the answer.
-    pub fn status(self) -> u16
-        ensures { result ≡ refused_status self }
+    pub fn status(&self) -> u16
+        ensures { result ≡ refused_status self.now }
     {
         match self {
             Refused::NoPath => 404,
@@ -94,24 +131,27 @@ impl Refused {
             Refused::NoToken | Refused::UnknownToken => 401,
             Refused::NotCaller => 403,
             Refused::BadPath
+            | Refused::MissingParameter(_)
             | Refused::BadParameter(_)
             | Refused::NotJson
             | Refused::Fraction
             | Refused::IntegerRange
-            | Refused::BadShape(_) => 400,
+            | Refused::BadShape(_)
+            | Refused::EventFormat => 400,
         }
     }
 
     /// The error code (Client-Server API, Standard error response).
-    pub fn code(self) -> &'static str
-        ensures { result.now ≡ refused_code self }
+    pub fn code(&self) -> &'static str
+        ensures { result.now ≡ refused_code self.now }
     {
         match self {
             Refused::NoPath | Refused::NoMethod => "M_UNRECOGNIZED",
             Refused::NoToken => "M_MISSING_TOKEN",
             Refused::UnknownToken => "M_UNKNOWN_TOKEN",
             Refused::NotCaller => "M_FORBIDDEN",
-            Refused::BadPath | Refused::BadParameter(_) => "M_INVALID_PARAM",
+            Refused::MissingParameter(_) => "M_MISSING_PARAM",
+            Refused::BadPath | Refused::BadParameter(_) | Refused::EventFormat => "M_INVALID_PARAM",
             Refused::NotJson => "M_NOT_JSON",
             Refused::Fraction | Refused::IntegerRange | Refused::BadShape(_) | Refused::OwnType => {
                 "M_BAD_JSON"
@@ -120,8 +160,8 @@ impl Refused {
     }
 
     /// The text of the error.
-    fn text(self, alloc: Global) -> Result<Text, Memory>
-        ensures { IfOk result (λ text. text ≡ refused_text self) }
+    fn text(&self, alloc: Global) -> Result<Text, Memory>
+        ensures { IfOk result (λ text. text ≡ refused_text self.now) }
     {
         match self {
             Refused::NoPath => text(alloc, "no such path"),
@@ -130,14 +170,23 @@ impl Refused {
             Refused::UnknownToken => text(alloc, "unknown token"),
             Refused::BadPath => text(alloc, "invalid parameter: path"),
             Refused::NotCaller => text(alloc, "forbidden"),
-            Refused::BadParameter(parameter) => parameter_text(alloc, parameter),
+            Refused::MissingParameter(parameter) => missing_text(alloc, *parameter),
+            Refused::BadParameter(parameter) => parameter_text(alloc, *parameter),
             Refused::NotJson => text(alloc, "not JSON"),
             Refused::Fraction => text(alloc, "bad JSON: fraction"),
             Refused::IntegerRange => text(alloc, "bad JSON: integer out of range"),
             Refused::BadShape(field) => field_text(alloc, field),
+            Refused::EventFormat => text(alloc, "invalid parameter: event_format"),
             Refused::OwnType => text(alloc, "bad JSON: type"),
         }
     }
+}
+
+fn missing_text(alloc: Global, parameter: Parameter) -> Result<Text, Memory>
+    ensures { IfOk result (λ text. text ≡ refused_text (Refused.MissingParameter parameter)) }
+{
+    let text = format!(in alloc; "missing parameter: {}", parameter.name())?;
+    Ok(Text::from_string(text))
 }
 
 fn parameter_text(alloc: Global, parameter: Parameter) -> Result<Text, Memory>
@@ -147,16 +196,16 @@ fn parameter_text(alloc: Global, parameter: Parameter) -> Result<Text, Memory>
     Ok(Text::from_string(text))
 }
 
-fn field_text(alloc: Global, field: Field) -> Result<Text, Memory>
-    ensures { IfOk result (λ text. text ≡ refused_text (Refused.BadShape field)) }
+fn field_text(alloc: Global, field: &Field) -> Result<Text, Memory>
+    ensures { IfOk result (λ text. text ≡ refused_text (Refused.BadShape field.now)) }
 {
     let text = format!(in alloc; "bad JSON: {}", field.name())?;
     Ok(Text::from_string(text))
 }
 
 /// The object of a refusal (Client-Server API, Standard error response).
-pub fn refused_json(alloc: Global, refused: Refused) -> Result<Json, Memory>
-    ensures { IfOk result (λ json. json ≡ refused_json refused) }
+pub fn refused_json(alloc: Global, refused: &Refused) -> Result<Json, Memory>
+    ensures { IfOk result (λ json. json ≡ refused_json refused.now) }
 {
     error_json(alloc, refused.code(), refused.text(alloc)?)
 }
