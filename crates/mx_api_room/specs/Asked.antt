@@ -7,8 +7,8 @@ use Rattle.mx_http.specs.Queries.{path_of}
 use Rattle.mx_http.specs.declared.call.Call.{Call}
 use Rattle.mx_create.specs.Bodies.{wrong_field}
 use Rattle.mx_create.specs.declared.body.BodyField.{BodyField}
-use Rattle.mx_engine.specs.declared.ask.Ask.TheVariants as ask
-use Rattle.mx_engine.specs.declared.ask.Who.{Who}
+use Rattle.mx_ask.specs.declared.ask.Ask.TheVariants as ask
+use Rattle.mx_ask.specs.declared.ask.Who.{Who}
 use Rattle.mx_api.specs.Bodies.{posted}
 use Rattle.mx_api.specs.Calls.{asked_by, authenticated, request}
 use Rattle.mx_api.specs.Parts.{one_part}
@@ -35,25 +35,26 @@ creation_asked who body = creation_by who body (wrong_field body)
 unfoldable pub create_asked : Authenticated → List ℕ → Asked
 create_asked call body = asked_by (creation_asked call.who) (posted body)
 
-abbrev pub route_asked : Route → List ℕ → Authenticated → Asked
-route_asked route.CreateRoom body call = create_asked call body
-route_asked route.Send body call = send_asked call body
-route_asked route.StateAtKey body call = state_at_key_asked call body
-route_asked route.StateAtEmptyKey body call = state_at_key_asked call body
-route_asked route.State body call = state_asked call body
-route_asked route.Redact body call = redact_asked call body
-route_asked route.JoinById body call = join_asked call.who (one_part call.parts) body
-route_asked route.Join body call = join_asked call.who (room_of call.parts) body
-route_asked route.Leave body call = leave_asked call.who (room_of call.parts) body
-route_asked route.Invite body call = change_asked change.Invite call.who (room_of call.parts) body
-route_asked route.Kick body call = change_asked change.Kick call.who (room_of call.parts) body
-route_asked route.Ban body call = change_asked change.Ban call.who (room_of call.parts) body
-route_asked route.Unban body call = change_asked change.Unban call.who (room_of call.parts) body
+-- on a route, by the method and the body
+abbrev pub route_asked : Route → List ℕ → List ℕ → Authenticated → Asked
+route_asked route.CreateRoom method body call = create_asked call body
+route_asked route.Send method body call = send_asked call body
+route_asked route.StateAtKey method body call = state_at_key_asked method call body
+route_asked route.StateAtEmptyKey method body call = state_at_key_asked method call body
+route_asked route.State method body call = state_asked method call body
+route_asked route.Redact method body call = redact_asked call body
+route_asked route.JoinById method body call = join_asked call.who (one_part call.parts) body
+route_asked route.Join method body call = join_asked call.who (room_of call.parts) body
+route_asked route.Leave method body call = leave_asked call.who (room_of call.parts) body
+route_asked route.Invite method body call = change_asked change.Invite call.who (room_of call.parts) body
+route_asked route.Kick method body call = change_asked change.Kick call.who (room_of call.parts) body
+route_asked route.Ban method body call = change_asked change.Ban call.who (room_of call.parts) body
+route_asked route.Unban method body call = change_asked change.Unban call.who (room_of call.parts) body
 
 abbrev pub asked_on : Users → Call → Option Route → Asked
 asked_on users call None = asked.NoRoute
 asked_on users call (Some route) =
-    if has_method route call.method then asked_by (route_asked route call.body) (authenticated users call) else asked.Refused refused.NoMethod
+    if has_method route call.method then asked_by (route_asked route call.method call.body) (authenticated users call) else asked.Refused refused.NoMethod
 
 -- what a call asks by the route that its path finds, or the first refusal
 unfoldable pub room_asked : Users → Call → Asked

@@ -1,10 +1,12 @@
--- Calls that send events to a room (Client-Server API, Sending events to a room, Redactions).
-use Rattle.std.specs.Prelude.{ℕ, List, [], ◌∷◌, codes}
+-- Calls that send events to a room, and that read its state at a key (Client-Server API, Sending events to a room, Redactions,
+-- Getting events for a room).
+use Rattle.std.specs.Prelude.{ℕ, List, [], ◌∷◌, if◌then◌else◌, codes}
+use Rattle.std.specs.Str.{bytes_eq}
 use Rattle.mx_json.specs.Fields.{text_at}
 use Rattle.mx_json.specs.declared.value.Json.{Json}
 use Rattle.mx_event.specs.declared.event.Txn.{Txn}
-use Rattle.mx_engine.specs.declared.ask.Ask.TheVariants as ask
-use Rattle.mx_engine.specs.declared.ask.Who.{Who}
+use Rattle.mx_ask.specs.declared.ask.Ask.TheVariants as ask
+use Rattle.mx_ask.specs.declared.ask.Who.{Who}
 use Rattle.mx_api.specs.Bodies.{object_of}
 use Rattle.mx_api.specs.Calls.{asked_by, request}
 use Rattle.mx_api.specs.Parts.{asked_of, four_parts, three_parts}
@@ -21,14 +23,28 @@ send_asked call body =
     asked_of (λ p. asked_by (λ content. request call.who (ask.Send p.0 p.2 (txn_of call.who.device p) content)) (object_of body)) (four_parts call.parts)
 
 -- PUT /rooms/{roomId}/state/{eventType}/{stateKey}, and the same with nothing behind the last slash, which is the empty key
-unfoldable pub state_at_key_asked : Authenticated → List ℕ → Asked
-state_at_key_asked call body =
+unfoldable pub put_at_key_asked : Authenticated → List ℕ → Asked
+put_at_key_asked call body =
     asked_of (λ p. asked_by (λ content. request call.who (ask.PutState p.0 p.2 p.3 content)) (object_of body)) (four_parts call.parts)
 
--- PUT /rooms/{roomId}/state/{eventType}
-unfoldable pub state_asked : Authenticated → List ℕ → Asked
-state_asked call body =
+-- GET of the same paths
+abbrev pub get_at_key_asked : Authenticated → Asked
+get_at_key_asked call = asked_of (λ p. request call.who (ask.GetState p.0 p.2 p.3)) (four_parts call.parts)
+
+abbrev pub state_at_key_asked : List ℕ → Authenticated → List ℕ → Asked
+state_at_key_asked method call body = if bytes_eq method (codes "GET") then get_at_key_asked call else put_at_key_asked call body
+
+-- PUT /rooms/{roomId}/state/{eventType}, which is the empty key
+unfoldable pub put_state_asked : Authenticated → List ℕ → Asked
+put_state_asked call body =
     asked_of (λ p. asked_by (λ content. request call.who (ask.PutState p.0 p.2 [] content)) (object_of body)) (three_parts call.parts)
+
+-- GET of the same path
+abbrev pub get_state_asked : Authenticated → Asked
+get_state_asked call = asked_of (λ p. request call.who (ask.GetState p.0 p.2 [])) (three_parts call.parts)
+
+abbrev pub state_asked : List ℕ → Authenticated → List ℕ → Asked
+state_asked method call body = if bytes_eq method (codes "GET") then get_state_asked call else put_state_asked call body
 
 abbrev pub redaction_asked : Who → List ℕ → List ℕ → Txn → Json → Asked
 redaction_asked who room event txn body = request who (ask.Redact room event txn (text_at (codes "reason") body))

@@ -1,9 +1,9 @@
 -- Calls that change a membership of a room (Client-Server API, Room membership).
 use Rattle.std.specs.Prelude.{ℕ, List, Option, Some, None, option_map, codes}
 use Rattle.mx_json.specs.Fields.{text_at}
-use Rattle.mx_engine.specs.declared.ask.Ask.{Ask}
-use Rattle.mx_engine.specs.declared.ask.Ask.TheVariants as ask
-use Rattle.mx_engine.specs.declared.ask.Who.{Who}
+use Rattle.mx_ask.specs.declared.ask.Ask.{Ask}
+use Rattle.mx_ask.specs.declared.ask.Ask.TheVariants as ask
+use Rattle.mx_ask.specs.declared.ask.Who.{Who}
 use Rattle.mx_api.specs.Bodies.{posted}
 use Rattle.mx_api.specs.Calls.{asked_by, request}
 use Rattle.mx_api.specs.Parts.{asked_of, two_parts}

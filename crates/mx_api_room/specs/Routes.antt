@@ -1,5 +1,5 @@
 -- The routes on rooms (Client-Server API).
-use Rattle.std.specs.Prelude.{ℕ, List, [], ◌∷◌, Bool, codes}
+use Rattle.std.specs.Prelude.{ℕ, List, [], ◌∷◌, Bool, ◌||◌, codes}
 use Rattle.std.specs.Str.{bytes_eq}
 use Rattle.matchit.specs.Router.{RouteOf}
 use Rattle.matchit.specs.Rows.{RowsOf}
@@ -22,24 +22,21 @@ path_of route.Kick = codes "/_matrix/client/v3/rooms/{roomId}/kick"
 path_of route.Ban = codes "/_matrix/client/v3/rooms/{roomId}/ban"
 path_of route.Unban = codes "/_matrix/client/v3/rooms/{roomId}/unban"
 
-abbrev pub method_of : Route → List ℕ
-method_of route.CreateRoom = codes "POST"
-method_of route.Send = codes "PUT"
-method_of route.StateAtKey = codes "PUT"
-method_of route.StateAtEmptyKey = codes "PUT"
-method_of route.State = codes "PUT"
-method_of route.Redact = codes "PUT"
-method_of route.JoinById = codes "POST"
-method_of route.Join = codes "POST"
-method_of route.Leave = codes "POST"
-method_of route.Invite = codes "POST"
-method_of route.Kick = codes "POST"
-method_of route.Ban = codes "POST"
-method_of route.Unban = codes "POST"
-
 -- the path has this method
 abbrev pub has_method : Route → List ℕ → Bool
-has_method route method = bytes_eq method (method_of route)
+has_method route.CreateRoom method = bytes_eq method (codes "POST")
+has_method route.Send method = bytes_eq method (codes "PUT")
+has_method route.StateAtKey method = bytes_eq method (codes "PUT") || bytes_eq method (codes "GET")
+has_method route.StateAtEmptyKey method = bytes_eq method (codes "PUT") || bytes_eq method (codes "GET")
+has_method route.State method = bytes_eq method (codes "PUT") || bytes_eq method (codes "GET")
+has_method route.Redact method = bytes_eq method (codes "PUT")
+has_method route.JoinById method = bytes_eq method (codes "POST")
+has_method route.Join method = bytes_eq method (codes "POST")
+has_method route.Leave method = bytes_eq method (codes "POST")
+has_method route.Invite method = bytes_eq method (codes "POST")
+has_method route.Kick method = bytes_eq method (codes "POST")
+has_method route.Ban method = bytes_eq method (codes "POST")
+has_method route.Unban method = bytes_eq method (codes "POST")
 
 -- the table of all routes
 unfoldable pub table : RowsOf (RouteOf Route)

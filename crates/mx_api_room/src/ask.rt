@@ -58,28 +58,47 @@ fn ask_on(alloc: Global, route: Route, call: &Call, directory: &Directory) -> Re
         return Ok(Asked::Refused(Refused::NoMethod));
     }
     match authenticate(alloc, call, directory)? {
-        Ok(caller) => ask_route(alloc, route, caller, call.body.as_slice()),
+        Ok(caller) => ask_route(alloc, route, call, caller),
         Err(refused) => Ok(Asked::Refused(refused)),
     }
 }
 
 /// What a caller asks on a route.
-fn ask_route(alloc: Global, route: Route, call: Authenticated, body: &[u8]) -> Result<Asked, Memory>
-    ensures asked { IfOk result (λ asked. asked ≡ route_asked route body.now call) }
+fn ask_route(
+    alloc: Global,
+    route: Route,
+    call: &Call,
+    caller: Authenticated,
+) -> Result<Asked, Memory>
+    ensures asked { IfOk result (λ asked. asked ≡ route_asked route call.now.method call.now.body caller) }
     ensures sound { IfOk result (λ asked. IsAsked asked) }
 {
+    let body = call.body.as_slice();
+    let method = call.method.as_str();
     match route {
-        Route::CreateRoom => create(alloc, call, body),
-        Route::Send => send(alloc, call, body),
-        Route::StateAtKey | Route::StateAtEmptyKey => state_at_key(alloc, call, body),
-        Route::State => state(alloc, call, body),
-        Route::Redact => redact(alloc, call, body),
-        Route::JoinById => join(alloc, call.who, one_part(call.parts), body),
-        Route::Join => join(alloc, call.who, room_of(call.parts), body),
-        Route::Leave => leave(alloc, call.who, room_of(call.parts), body),
-        Route::Invite => change_member(alloc, Change::Invite, call.who, room_of(call.parts), body),
-        Route::Kick => change_member(alloc, Change::Kick, call.who, room_of(call.parts), body),
-        Route::Ban => change_member(alloc, Change::Ban, call.who, room_of(call.parts), body),
-        Route::Unban => change_member(alloc, Change::Unban, call.who, room_of(call.parts), body),
+        Route::CreateRoom => create(alloc, caller, body),
+        Route::Send => send(alloc, caller, body),
+        Route::StateAtKey | Route::StateAtEmptyKey => state_at_key(alloc, method, caller, body),
+        Route::State => state(alloc, method, caller, body),
+        Route::Redact => redact(alloc, caller, body),
+        Route::JoinById => join(alloc, caller.who, one_part(caller.parts), body),
+        Route::Join => join(alloc, caller.who, room_of(caller.parts), body),
+        Route::Leave => leave(alloc, caller.who, room_of(caller.parts), body),
+        Route::Invite => change_member(
+            alloc,
+            Change::Invite,
+            caller.who,
+            room_of(caller.parts),
+            body,
+        ),
+        Route::Kick => change_member(alloc, Change::Kick, caller.who, room_of(caller.parts), body),
+        Route::Ban => change_member(alloc, Change::Ban, caller.who, room_of(caller.parts), body),
+        Route::Unban => change_member(
+            alloc,
+            Change::Unban,
+            caller.who,
+            room_of(caller.parts),
+            body,
+        ),
     }
 }

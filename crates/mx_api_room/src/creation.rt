@@ -4,8 +4,8 @@ ghost use Rattle.mx_api.specs.Calls.{IsAsked};
 ghost use Rattle.mx_api_room.specs.Asked.{create_asked, creation_asked};
 
 use mx_api::{Asked, Authenticated, Field, Refused, post_body};
+use mx_ask::{Ask, Request, Who};
 use mx_create::wrong_field;
-use mx_engine::{Ask, Request, Who};
 use mx_ids::Memory;
 use mx_json::Json;
 use std::alloc::Global;

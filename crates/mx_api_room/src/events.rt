@@ -1,10 +1,10 @@
-//! Calls that send events to a room.
+//! Calls that send events to a room, and that read its state at a key.
 ghost use Rattle.std.specs.Prelude.{◌≡◌, IfOk, Some, slice_get};
 ghost use Rattle.mx_api.specs.Calls.{IsAsked};
-ghost use Rattle.mx_api_room.specs.Events.{redact_asked, redaction_asked, send_asked, state_asked, state_at_key_asked, txn_of};
+ghost use Rattle.mx_api_room.specs.Events.{get_at_key_asked, get_state_asked, put_at_key_asked, put_state_asked, redact_asked, redaction_asked, send_asked, state_asked, state_at_key_asked, txn_of};
 
 use mx_api::{Asked, Authenticated, Refused, four_parts, object_body, text_field, three_parts};
-use mx_engine::{Ask, Request, Who};
+use mx_ask::{Ask, Request, Who};
 use mx_event::Txn;
 use mx_ids::{Copied, Memory, Seq, Text};
 use mx_json::Json;
@@ -35,10 +35,38 @@ pub(crate) fn send(alloc: Global, call: Authenticated, body: &[u8]) -> Result<As
     }
 }
 
-/// A state event at a key (Client-Server API, Sending events to a room).
-#[tactic(auto, unfolding(crate::specs::Events::state_at_key_asked))]
-pub(crate) fn state_at_key(alloc: Global, call: Authenticated, body: &[u8]) -> Result<Asked, Memory>
-    ensures asked { IfOk result (λ asked. asked ≡ state_at_key_asked call body.now) }
+/// A room's state at a key, by the method (Client-Server API, Getting events for a room, Sending events to a room).
+pub(crate) fn state_at_key(
+    alloc: Global,
+    method: &str,
+    call: Authenticated,
+    body: &[u8],
+) -> Result<Asked, Memory>
+    ensures asked { IfOk result (λ asked. asked ≡ state_at_key_asked method.now call body.now) }
+    ensures sound { IfOk result (λ asked. IsAsked asked) }
+{
+    if method == "GET" {
+        return Ok(get_at_key(call));
+    }
+    put_at_key(alloc, call, body)
+}
+
+/// To read the content at a key.
+fn get_at_key(call: Authenticated) -> Asked
+    ensures asked { result ≡ get_at_key_asked call }
+    ensures sound { IsAsked result }
+{
+    let Some((room, _word, kind, key)) = four_parts(call.parts) else {
+        return Asked::Refused(Refused::BadPath);
+    };
+    let ask = Ask::GetState { room, kind, key };
+    Asked::Request(Request { who: call.who, ask })
+}
+
+/// To send a state event at a key.
+#[tactic(auto, unfolding(crate::specs::Events::put_at_key_asked))]
+fn put_at_key(alloc: Global, call: Authenticated, body: &[u8]) -> Result<Asked, Memory>
+    ensures asked { IfOk result (λ asked. asked ≡ put_at_key_asked call body.now) }
     ensures sound { IfOk result (λ asked. IsAsked asked) }
 {
     let who = call.who;
@@ -59,10 +87,39 @@ pub(crate) fn state_at_key(alloc: Global, call: Authenticated, body: &[u8]) -> R
     }
 }
 
-/// A state event at the empty key (Client-Server API, Sending events to a room).
-#[tactic(auto, unfolding(crate::specs::Events::state_asked))]
-pub(crate) fn state(alloc: Global, call: Authenticated, body: &[u8]) -> Result<Asked, Memory>
-    ensures asked { IfOk result (λ asked. asked ≡ state_asked call body.now) }
+/// A room's state at the empty key, by the method (Client-Server API, Getting events for a room, Sending events to a room).
+pub(crate) fn state(
+    alloc: Global,
+    method: &str,
+    call: Authenticated,
+    body: &[u8],
+) -> Result<Asked, Memory>
+    ensures asked { IfOk result (λ asked. asked ≡ state_asked method.now call body.now) }
+    ensures sound { IfOk result (λ asked. IsAsked asked) }
+{
+    if method == "GET" {
+        return Ok(get_state(alloc, call));
+    }
+    put_state(alloc, call, body)
+}
+
+/// To read the content at the empty key.
+fn get_state(alloc: Global, call: Authenticated) -> Asked
+    ensures asked { result ≡ get_state_asked call }
+    ensures sound { IsAsked result }
+{
+    let Some((room, _, kind)) = three_parts(call.parts) else {
+        return Asked::Refused(Refused::BadPath);
+    };
+    let key = Text::new(alloc);
+    let ask = Ask::GetState { room, kind, key };
+    Asked::Request(Request { who: call.who, ask })
+}
+
+/// To send a state event at the empty key.
+#[tactic(auto, unfolding(crate::specs::Events::put_state_asked))]
+fn put_state(alloc: Global, call: Authenticated, body: &[u8]) -> Result<Asked, Memory>
+    ensures asked { IfOk result (λ asked. asked ≡ put_state_asked call body.now) }
     ensures sound { IfOk result (λ asked. IsAsked asked) }
 {
     let who = call.who;

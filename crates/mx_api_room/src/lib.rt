@@ -1,4 +1,4 @@
-//! What calls on rooms ask: to create one, to send and redact events, and to change memberships.
+//! What calls on rooms ask: to create one, to send and redact events, to read the state at a key, and to change memberships.
 #![tactic(auto)]
 
 mod ask;

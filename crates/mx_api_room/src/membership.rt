@@ -5,7 +5,7 @@ ghost use Rattle.mx_api.specs.Calls.{IsAsked};
 ghost use Rattle.mx_api_room.specs.Membership.{change_asked, join_asked, leave_asked, named_asked, room_of};
 
 use mx_api::{Asked, Field, Refused, post_body, text_field, two_parts};
-use mx_engine::{Ask, Request, Who};
+use mx_ask::{Ask, Request, Who};
 use mx_ids::{Memory, Seq, Text};
 use mx_json::Json;
 use std::alloc::Global;

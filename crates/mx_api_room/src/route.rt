@@ -11,11 +11,11 @@ pub(crate) enum Route {
     CreateRoom,
     /// `PUT /rooms/{roomId}/send/{eventType}/{txnId}`
     Send,
-    /// `PUT /rooms/{roomId}/state/{eventType}/{stateKey}`
+    /// `PUT` and `GET /rooms/{roomId}/state/{eventType}/{stateKey}`
     StateAtKey,
-    /// `PUT /rooms/{roomId}/state/{eventType}/`
+    /// `PUT` and `GET /rooms/{roomId}/state/{eventType}/`
     StateAtEmptyKey,
-    /// `PUT /rooms/{roomId}/state/{eventType}`
+    /// `PUT` and `GET /rooms/{roomId}/state/{eventType}`
     State,
     /// `PUT /rooms/{roomId}/redact/{eventId}/{txnId}`
     Redact,
@@ -82,11 +82,10 @@ impl Route {
         ensures { result ≡ has_method self method.now }
     {
         match self {
-            Route::Send
-            | Route::StateAtKey
-            | Route::StateAtEmptyKey
-            | Route::State
-            | Route::Redact => method == "PUT",
+            Route::StateAtKey | Route::StateAtEmptyKey | Route::State => {
+                method == "PUT" || method == "GET"
+            }
+            Route::Send | Route::Redact => method == "PUT",
             Route::CreateRoom
             | Route::JoinById
             | Route::Join
