@@ -1,2 +1,1 @@
-mod Queries
-mod Tokens
+mod Numbers

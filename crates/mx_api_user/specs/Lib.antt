@@ -1,4 +1,9 @@
+pub mod Account
 pub mod Asked
-pub mod Parameters
+pub mod Filters
+pub mod Parts
 pub mod Queries
 pub mod Routes
+pub mod Rules
+pub mod Sync
+pub mod Tags

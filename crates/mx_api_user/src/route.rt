@@ -11,12 +11,46 @@ pub(crate) enum Route {
     WhoAmI,
     /// `GET /sync`
     Sync,
-    /// `PUT /user/{userId}/account_data/{type}`
+    /// `POST /user/{userId}/filter`
+    Filters,
+    /// `GET /user/{userId}/filter/{filterId}`
+    Filter,
+    /// `PUT` and `GET /user/{userId}/account_data/{type}`
     AccountData,
+    /// `PUT` and `GET /user/{userId}/rooms/{roomId}/account_data/{type}`
+    RoomAccountData,
+    /// `GET /user/{userId}/rooms/{roomId}/tags`
+    Tags,
+    /// `PUT` and `DELETE /user/{userId}/rooms/{roomId}/tags/{tag}`
+    Tag,
+    /// `GET /pushrules/`
+    PushRules,
+    /// `GET /pushrules/global/`
+    GlobalRules,
+    /// `GET`, `PUT` and `DELETE /pushrules/global/{kind}/{ruleId}`
+    Rule,
+    /// `PUT` and `GET /pushrules/global/{kind}/{ruleId}/enabled`
+    Enabled,
+    /// `PUT` and `GET /pushrules/global/{kind}/{ruleId}/actions`
+    Actions,
 }
 
 /// All of them.
-pub(crate) const ROUTES: [Route; 3] = [Route::WhoAmI, Route::Sync, Route::AccountData];
+pub(crate) const ROUTES: [Route; 13] = [
+    Route::WhoAmI,
+    Route::Sync,
+    Route::Filters,
+    Route::Filter,
+    Route::AccountData,
+    Route::RoomAccountData,
+    Route::Tags,
+    Route::Tag,
+    Route::PushRules,
+    Route::GlobalRules,
+    Route::Rule,
+    Route::Enabled,
+    Route::Actions,
+];
 
 impl RoutePath for Route {
     ghost use Rattle.mx_api_user.specs.Routes.{path_of};
@@ -27,7 +61,19 @@ impl RoutePath for Route {
         match self {
             Route::WhoAmI => "/_matrix/client/v3/account/whoami",
             Route::Sync => "/_matrix/client/v3/sync",
+            Route::Filters => "/_matrix/client/v3/user/{userId}/filter",
+            Route::Filter => "/_matrix/client/v3/user/{userId}/filter/{filterId}",
             Route::AccountData => "/_matrix/client/v3/user/{userId}/account_data/{type}",
+            Route::RoomAccountData => {
+                "/_matrix/client/v3/user/{userId}/rooms/{roomId}/account_data/{type}"
+            }
+            Route::Tags => "/_matrix/client/v3/user/{userId}/rooms/{roomId}/tags",
+            Route::Tag => "/_matrix/client/v3/user/{userId}/rooms/{roomId}/tags/{tag}",
+            Route::PushRules => "/_matrix/client/v3/pushrules/",
+            Route::GlobalRules => "/_matrix/client/v3/pushrules/global/",
+            Route::Rule => "/_matrix/client/v3/pushrules/global/{kind}/{ruleId}",
+            Route::Enabled => "/_matrix/client/v3/pushrules/global/{kind}/{ruleId}/enabled",
+            Route::Actions => "/_matrix/client/v3/pushrules/global/{kind}/{ruleId}/actions",
         }
     }
 }
@@ -38,8 +84,18 @@ impl Route {
         ensures { result ≡ has_method self method.now }
     {
         match self {
-            Route::WhoAmI | Route::Sync => method == "GET",
-            Route::AccountData => method == "PUT",
+            Route::WhoAmI
+            | Route::Sync
+            | Route::Filter
+            | Route::Tags
+            | Route::PushRules
+            | Route::GlobalRules => method == "GET",
+            Route::Filters => method == "POST",
+            Route::AccountData | Route::RoomAccountData | Route::Enabled | Route::Actions => {
+                method == "PUT" || method == "GET"
+            }
+            Route::Tag => method == "PUT" || method == "DELETE",
+            Route::Rule => method == "GET" || method == "PUT" || method == "DELETE",
         }
     }
 }

@@ -1,125 +1,79 @@
 //! The parameters of a sync.
-ghost use Rattle.std.specs.Prelude.{◌≡◌, ◌==◌};
+ghost use Rattle.std.specs.Prelude.{◌≡◌, ◌==◌, nat_lt, length, option_map};
 ghost use Rattle.std.specs.List.{list_all};
-ghost use Rattle.mx_api_user.specs.Queries.{is_of_form, is_zero, parameter_of, since_of, token_of};
-ghost use Rattle.mx_api_user.specs.Parameters.{is_seen, with_value, with_pair};
+ghost use Rattle.mx_api.specs.Queries.{is_number, is_wrong};
+ghost use Rattle.mx_api_user.specs.Queries.{first_bad, is_filter, is_full, is_token, is_truth, is_zero, since_in};
 
-use mx_api::Parameter;
-use mx_ids::{SyncToken, Text, read_sync_token};
+use crate::filters::begins_object;
+use mx_api::{Parameter, first_wrong, number_within, sync_token_of};
+use mx_http::parameter;
+use mx_ids::{SyncToken, Text};
 
-/// The token of `since`; an error is the first parameter that isn't of its form. Of a repeated
-/// parameter the first counts, and unknown ones have no effect (Client-Server API, Syncing).
-#[tactic(auto, using(crate::proofs::Queries::pairs_read))]
-pub(crate) fn since_of(pairs: &[(Text, Text)]) -> Result<Option<SyncToken>, Parameter>
-    ensures { result ≡ since_of pairs.now }
+/// The first parameter of a query that isn't of its form. Of a repeated parameter the first counts, and unknown ones have no
+/// effect (Client-Server API, Syncing).
+#[tactic(auto, unfolding(crate::specs::Queries::first_bad))]
+pub(crate) fn first_bad(query: &[(Text, Text)]) -> Option<Parameter>
+    ensures { result ≡ first_bad query.now }
 {
-    let mut seen = Seen {
-        since: None,
-        full_state: false,
-        timeout: false,
-    };
-    'pairs: for (name, value) in pairs {
-        match seen.with_pair(name.as_str(), value.as_str()) {
-            Ok(more) => seen = more,
-            Err(parameter) => return Err(parameter),
-        }
-    }
-    Ok(seen.since)
+    let judged = [
+        (Parameter::Since, is_no_token(parameter(query, "since"))),
+        (
+            Parameter::FullState,
+            is_no_truth(parameter(query, "full_state")),
+        ),
+        (Parameter::Timeout, is_no_zero(parameter(query, "timeout"))),
+        (Parameter::Filter, is_no_filter(parameter(query, "filter"))),
+    ];
+    first_wrong(query, judged.as_slice())
 }
 
-/// The parameters that came, each of its form.
-#[derive(Clone, Copy)]
-pub(crate) struct Seen {
-    pub(crate) since: Option<SyncToken>,
-    pub(crate) full_state: bool,
-    pub(crate) timeout: bool,
-}
-
-impl Seen {
-    /// Whether the parameter came.
-    fn has(self, parameter: Parameter) -> bool
-        ensures { result ≡ is_seen self parameter }
-    {
-        match parameter {
-            Parameter::Since => self.since.is_some(),
-            Parameter::FullState => self.full_state,
-            Parameter::Timeout => self.timeout,
-            Parameter::Filter => false,
-        }
-    }
-
-    /// The same with a parameter, whose value is of its form.
-    fn with_value(self, parameter: Parameter, value: &str) -> Seen
-        ensures { result ≡ with_value self parameter value.now }
-    {
-        match parameter {
-            Parameter::Since => Seen {
-                since: token_of(value),
-                ..self
-            },
-            Parameter::FullState => Seen {
-                full_state: true,
-                ..self
-            },
-            Parameter::Timeout => Seen {
-                timeout: true,
-                ..self
-            },
-            Parameter::Filter => self,
-        }
-    }
-
-    /// The same with a further name and value; an error is their parameter, where the value isn't of its form.
-    fn with_pair(self, name: &str, value: &str) -> Result<Seen, Parameter>
-        ensures { result ≡ with_pair self (name.now, value.now) }
-    {
-        match parameter_of(name) {
-            None => Ok(self),
-            Some(parameter) => {
-                if self.has(parameter) {
-                    Ok(self)
-                } else if is_of_form(parameter, value) {
-                    Ok(self.with_value(parameter, value))
-                } else {
-                    Err(parameter)
-                }
-            }
-        }
-    }
-}
-
-/// The token that a text is read as, where it is one.
-fn token_of(text: &str) -> Option<SyncToken>
-    ensures { result ≡ token_of text.now }
+/// The token of `since`, if it is one.
+pub(crate) fn since_in(query: &[(Text, Text)]) -> Option<SyncToken>
+    ensures { result ≡ since_in query.now }
 {
-    match read_sync_token(text) {
-        Ok(token) => Some(token),
-        Err(_) => None,
+    sync_token_of(parameter(query, "since")?.as_str())
+}
+
+/// Whether the whole state is asked for.
+pub(crate) fn is_full(query: &[(Text, Text)]) -> bool
+    ensures { result ≡ is_full query.now }
+{
+    match parameter(query, "full_state") {
+        Some(text) => text.as_str() == "true",
+        None => false,
     }
 }
 
-/// The parameter of a name.
-fn parameter_of(name: &str) -> Option<Parameter>
-    ensures { result ≡ parameter_of name.now }
+fn is_no_token(value: Option<&Text>) -> bool
+    ensures { result ≡ is_wrong is_token (option_map (λ v. v.now) value.entry) }
 {
-    match name {
-        "since" => Some(Parameter::Since),
-        "full_state" => Some(Parameter::FullState),
-        "timeout" => Some(Parameter::Timeout),
-        "filter" => Some(Parameter::Filter),
-        _ => None,
+    match value {
+        Some(text) => sync_token_of(text.as_str()).is_none(),
+        None => false,
     }
 }
 
-/// Whether the value is of the form of the parameter.
-fn is_of_form(parameter: Parameter, value: &str) -> bool
-    ensures { result ≡ is_of_form parameter value.now }
+fn is_no_truth(value: Option<&Text>) -> bool
+    ensures { result ≡ is_wrong is_truth (option_map (λ v. v.now) value.entry) }
 {
-    match parameter {
-        Parameter::Since => token_of(value).is_some(),
-        Parameter::FullState => value == "true" || value == "false",
-        Parameter::Timeout => is_zero(value.as_bytes()),
-        Parameter::Filter => false,
+    match value {
+        Some(text) => !is_truth(text.as_str()),
+        None => false,
+    }
+}
+
+fn is_truth(value: &str) -> bool
+    ensures { result ≡ is_truth value.now }
+{
+    value == "true" || value == "false"
+}
+
+fn is_no_zero(value: Option<&Text>) -> bool
+    ensures { result ≡ is_wrong is_zero (option_map (λ v. v.now) value.entry) }
+{
+    match value {
+        Some(text) => !is_zero(text.as_str().as_bytes()),
+        None => false,
     }
 }
 
@@ -134,4 +88,26 @@ fn all_zero(value: &[u8]) -> bool
     ensures { result ≡ list_all (λ b. b == 48) value.now }
 {
     value.iter().all(|byte| *byte == b'0')
+}
+
+fn is_no_filter(value: Option<&Text>) -> bool
+    ensures { result ≡ is_wrong is_filter (option_map (λ v. v.now) value.entry) }
+{
+    match value {
+        Some(text) => !is_filter(text),
+        None => false,
+    }
+}
+
+/// Whether the text is the id of a stored filter, in digits, or begins an object.
+fn is_filter(text: &Text) -> bool
+    ensures { result ≡ is_filter text.now }
+{
+    begins_object(text.as_str().as_bytes()) || is_number(text)
+}
+
+fn is_number(text: &Text) -> bool
+    ensures { result ≡ is_number text.now }
+{
+    number_within(text, 0).is_some()
 }
