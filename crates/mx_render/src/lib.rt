@@ -1,7 +1,7 @@
 //! What a request is answered, as a status and JSON.
 #![tactic(auto)]
 
-mod engine_error;
-mod said;
+mod refusals;
+mod rendering;
 
-pub use said::{no_memory, render};
+pub use rendering::{no_memory, render};

@@ -1,10 +1,11 @@
-//! What an error answer says of an engine's refusal.
+//! What an error answer says of a refusal.
 ghost use Rattle.std.specs.Prelude.{◌≡◌, IfOk};
 ghost use Rattle.mx_render.specs.Errors.{code_of, status_of, text_of};
 
 use mx_api::text;
-use mx_engine::Refusal;
+use mx_ask::Refusal;
 use mx_ids::{Memory, Text};
+use mx_rules::Side;
 use std::alloc::Global;
 
 /// The status of the answer.
@@ -14,13 +15,17 @@ pub(crate) fn status_of(refusal: Refusal) -> u16
     match refusal {
         Refusal::NotFound => 404,
         Refusal::TooLarge => 413,
-        Refusal::Denied(_) => 403,
+        Refusal::Forbidden | Refusal::Denied(_) => 403,
         Refusal::Full(_) => 500,
         Refusal::TokenAhead { .. }
         | Refusal::Version
         | Refusal::Preset
         | Refusal::TooMany
-        | Refusal::State(_) => 400,
+        | Refusal::State(_)
+        | Refusal::DefaultRule
+        | Refusal::BadCondition
+        | Refusal::BadAction
+        | Refusal::NoNeighbour(_) => 400,
     }
 }
 
@@ -31,10 +36,15 @@ pub(crate) fn code_of(refusal: Refusal) -> &'static str
     match refusal {
         Refusal::NotFound => "M_NOT_FOUND",
         Refusal::TooLarge => "M_TOO_LARGE",
-        Refusal::Denied(_) => "M_FORBIDDEN",
+        Refusal::Forbidden | Refusal::Denied(_) => "M_FORBIDDEN",
         Refusal::Version => "M_UNSUPPORTED_ROOM_VERSION",
-        Refusal::TokenAhead { .. } | Refusal::Preset | Refusal::TooMany => "M_INVALID_PARAM",
+        Refusal::TokenAhead { .. }
+        | Refusal::Preset
+        | Refusal::TooMany
+        | Refusal::DefaultRule
+        | Refusal::NoNeighbour(_) => "M_INVALID_PARAM",
         Refusal::State(_) => "M_INVALID_ROOM_STATE",
+        Refusal::BadCondition | Refusal::BadAction => "M_BAD_JSON",
         Refusal::Full(_) => "ORG_MXSYNC_FULL",
     }
 }
@@ -46,9 +56,15 @@ pub(crate) fn text_of(alloc: Global, refusal: Refusal) -> Result<Text, Memory>
     match refusal {
         Refusal::NotFound => text(alloc, "not found"),
         Refusal::TooLarge => text(alloc, "too large"),
+        Refusal::Forbidden => text(alloc, "forbidden"),
         Refusal::Version => text(alloc, "unsupported room version"),
         Refusal::Preset => text(alloc, "invalid parameter: preset"),
         Refusal::TooMany => text(alloc, "invalid parameter: initial_state"),
+        Refusal::DefaultRule => text(alloc, "invalid parameter: ruleId"),
+        Refusal::BadCondition => text(alloc, "bad JSON: conditions"),
+        Refusal::BadAction => text(alloc, "bad JSON: actions"),
+        Refusal::NoNeighbour(Side::Before) => text(alloc, "invalid parameter: before"),
+        Refusal::NoNeighbour(Side::After) => text(alloc, "invalid parameter: after"),
         Refusal::TokenAhead { asked, front } => ahead_text(alloc, asked, front),
         Refusal::Denied(rule) => denied_text(alloc, rule),
         Refusal::State(rule) => state_text(alloc, rule),
