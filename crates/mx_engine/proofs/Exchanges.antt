@@ -3,10 +3,11 @@ use Rattle.std.proofs.Common.{◌≡◌, ℕ, ◌≤◌, List, [], ◌∷◌, �
 use Rattle.std.proofs.lemmas.List.{take_all, take-append-le}
 use Rattle.mx_core.specs.History.{Begins}
 use Rattle.mx_core.proofs.Histories.{begins_trans}
+use Rattle.mx_fold.specs.Lists.{Grows, Histories}
 use Rattle.mx_engine.specs.declared.answered.Answered.{Answered}
 use Rattle.mx_engine.specs.declared.answered.Counts.{Counts}
-use Rattle.mx_engine.specs.declared.ask.Request.{Request}
-use Rattle.mx_engine.specs.Answers.{AllBegin, IsAnswered, KeepsAct, Lists, Stops, answer_to, asked, counts, counts_of}
+use Rattle.mx_ask.specs.declared.ask.Request.{Request}
+use Rattle.mx_engine.specs.Answers.{IsAnswered, KeepsAct, Stops, answer_to, asked, counts, counts_of}
 use Rattle.mx_engine.specs.Asked.{Site}
 use Rattle.mx_engine.specs.Exchanges.{first_of, AtMost, IsExchange, AreExchanges, last_counts, HasServed}
 use Rattle.mx_engine.proofs.Done.{all_self}
@@ -16,7 +17,7 @@ first_kept n xs ys b l = ap (take n) b.1 ∙ take-append-le n xs b.0 l
 
 module _ (site : Site) (stops : Stops) where
   -- each mark is within the lists
-  within : (all : Lists) (before : Counts) (rs : List Request) (ans : List Answered) → AreExchanges site stops all before rs ans → AtMost before (counts_of all)
+  within : (all : Histories) (before : Counts) (rs : List Request) (ans : List Answered) → AreExchanges site stops all before rs ans → AtMost before (counts_of all)
   within all before [] [] h = h
   within all before (r ∷ rs) (a ∷ ans) h =
       let rest = within all (counts a.mark) rs ans h.1 in
@@ -24,28 +25,28 @@ module _ (site : Site) (stops : Stops) where
   within all before (r ∷ rs) [] h = absurd h
   within all before [] (a ∷ ans) h = absurd h
 
-  pub kept_first : (all more : Lists) → AllBegin all more → (n : Counts) → AtMost n (counts_of all) → first_of all n ≡ first_of more n
+  pub kept_first : (all more : Histories) → Grows all more → (n : Counts) → AtMost n (counts_of all) → first_of all n ≡ first_of more n
   kept_first all more b n l = λ i. record {
     events = sym (first_kept n.events all.events more.events b.events l.events) i;
     receipts = sym (first_kept n.receipts all.receipts more.receipts b.receipts l.receipts) i;
     accounts = sym (first_kept n.accounts all.accounts more.accounts b.accounts l.accounts) i;
   }
 
-  pub at_exit : (all : Lists) → first_of all (counts_of all) ≡ all
+  pub at_exit : (all : Histories) → first_of all (counts_of all) ≡ all
   at_exit all = λ i. record {
     events = take_all (length all.events) all.events (omega arith) i;
     receipts = take_all (length all.receipts) all.receipts (omega arith) i;
     accounts = take_all (length all.accounts) all.accounts (omega arith) i;
   }
 
-  pub longer : (xs ys : Lists) → AllBegin xs ys → AtMost (counts_of xs) (counts_of ys)
+  pub longer : (xs ys : Histories) → Grows xs ys → AtMost (counts_of xs) (counts_of ys)
   longer xs ys b = record {
     events = omega (arith, ap length b.events.1, length-append xs.events b.events.0);
     receipts = omega (arith, ap length b.receipts.1, length-append xs.receipts b.receipts.0);
     accounts = omega (arith, ap length b.accounts.1, length-append xs.accounts b.accounts.0);
   }
 
-  one_exchange : (all more : Lists) (before : Counts) (r : Request) (a : Answered) → IsExchange site stops all before r a → AllBegin all more → AtMost (counts a.mark) (counts_of all) → IsExchange site stops more before r a
+  one_exchange : (all more : Histories) (before : Counts) (r : Request) (a : Answered) → IsExchange site stops all before r a → Grows all more → AtMost (counts a.mark) (counts_of all) → IsExchange site stops more before r a
   one_exchange all more before r a h b l =
       let was : AtMost before (counts_of all) = record { events = omega (arith, h.later.events, l.events); receipts = omega (arith, h.later.receipts, l.receipts); accounts = omega (arith, h.later.accounts, l.accounts) } in
       let old : first_of all before ≡ first_of more before = kept_first all more b before was in
@@ -58,7 +59,7 @@ module _ (site : Site) (stops : Stops) where
       }
 
   -- an answer that was made where the exchanges before it ended
-  made : (old new : Lists) (before : Counts) (r : Request) (a : Answered) → before ≡ counts_of old → IsAnswered site stops a.mark.now r.who r.ask old new a → IsExchange site stops new before r a
+  made : (old new : Histories) (before : Counts) (r : Request) (a : Answered) → before ≡ counts_of old → IsAnswered site stops a.mark.now r.who r.ask old new a → IsExchange site stops new before r a
   made old new before r a is h =
       let exit : new ≡ first_of new (counts a.mark) = sym (ap (first_of new) h.seen ∙ at_exit new) in
       let entry : old ≡ first_of new before = sym (ap (first_of new) is ∙ (sym (kept_first old new h.begins (counts_of old) (longer old old (all_self old))) ∙ at_exit old)) in
@@ -74,7 +75,7 @@ module _ (site : Site) (stops : Stops) where
         keeps = subst (λ lists. KeepsAct stops act a.mark (first_of new before) lists) exit (subst (λ lists. KeepsAct stops act a.mark lists new) entry h.keeps);
       }
 
-  one_more : (old new : Lists) (before : Counts) (rs : List Request) (ans : List Answered) (r : Request) (a : Answered) → AreExchanges site stops old before rs ans → last_counts before ans ≡ counts_of old
+  one_more : (old new : Histories) (before : Counts) (rs : List Request) (ans : List Answered) (r : Request) (a : Answered) → AreExchanges site stops old before rs ans → last_counts before ans ≡ counts_of old
       → IsAnswered site stops a.mark.now r.who r.ask old new a → AreExchanges site stops new before (rs ++ r ∷ []) (ans ++ a ∷ [])
   one_more old new before [] [] r a h last is =
       (made old new before r a last is, subst (λ c. AtMost c (counts_of new)) (sym is.seen) (longer new new (all_self new)))
@@ -87,11 +88,11 @@ module _ (site : Site) (stops : Stops) where
   last_more before [] a = refl
   last_more before (b ∷ ans) a = last_more (counts b.mark) ans a
 
-  pub served_none : (old : Lists) → HasServed site stops [] [] old old
+  pub served_none : (old : Histories) → HasServed site stops [] [] old old
   served_none old = record { exchanges = longer old old (all_self old); last = refl; begins = all_self old }
 
   -- an exchange more
-  pub served_more : (start old new : Lists) (rs : List Request) (ans : List Answered) (r : Request) (a : Answered) → HasServed site stops rs ans start old → IsAnswered site stops a.mark.now r.who r.ask old new a
+  pub served_more : (start old new : Histories) (rs : List Request) (ans : List Answered) (r : Request) (a : Answered) → HasServed site stops rs ans start old → IsAnswered site stops a.mark.now r.who r.ask old new a
       → HasServed site stops (rs ++ r ∷ []) (ans ++ a ∷ []) start new
   served_more start old new rs ans r a h is = record {
     exchanges = one_more old new (counts_of start) rs ans r a h.exchanges h.last is;

@@ -1,11 +1,15 @@
-pub mod Agreement
 pub mod Blocked
+pub mod By
 pub mod Crosses
-pub mod LastContents
 pub mod Done
 pub mod Exchanges
+pub mod Filed
+pub mod Known
 mod Fresh
+pub mod Later
 pub mod Marked
 pub mod Memberships
+pub mod Noted
 pub mod Repeats
+mod Syncs
 pub mod Users

@@ -1,8 +1,6 @@
 -- What a request asks of the streams, one definition for each thing that may be asked.
 use Rattle.std.specs.Prelude.{ℕ, ◌-◌, ◌^◌, List, [], ◌∷◌, Bool, not, ◌&&◌, Option, Some, None, Result, Ok, Err, codes, nat_lt, position, unwrap_or, ◌%◌, if◌then◌else◌}
 use Rattle.std.specs.Str.{bytes_eq}
-use Rattle.mx_account.specs.declared.entry.Entry.{Entry}
-use Rattle.mx_account.specs.declared.entry.Entry.TheVariants as entry
 use Rattle.mx_create.specs.Blocks.{block_of, is_known}
 use Rattle.mx_create.specs.declared.fault.CreateFault.{CreateFault}
 use Rattle.mx_create.specs.declared.fault.CreateFault.TheVariants as creates
@@ -20,9 +18,9 @@ use Rattle.mx_json.specs.declared.value.Json.TheVariants as json
 use Rattle.mx_engine.specs.Plans.{Plan, One, Join, Unban, Block}
 use Rattle.mx_engine.specs.declared.aim.Told.{Told}
 use Rattle.mx_engine.specs.declared.aim.Told.TheVariants as told
-use Rattle.mx_engine.specs.declared.ask.Who.{Who}
-use Rattle.mx_engine.specs.declared.said.Refusal.{Refusal}
-use Rattle.mx_engine.specs.declared.said.Refusal.TheVariants as refusal
+use Rattle.mx_ask.specs.declared.ask.Who.{Who}
+use Rattle.mx_ask.specs.declared.refusal.Refusal.{Refusal}
+use Rattle.mx_ask.specs.declared.refusal.Refusal.TheVariants as refusal
 
 -- the server: its users, and the number of writers of each stream
 pub record Site : Type 0 where
@@ -32,11 +30,6 @@ pub record Site : Type 0 where
 -- the writer of a user's receipts, account data and new rooms
 abbrev pub writer_for : Site → List ℕ → ℕ
 writer_for site user = unwrap_or (position (λ id. bytes_eq id user) site.users.users) 0 % site.writers
-
--- ---- account data
-
-abbrev pub put_entry : Who → List ℕ → Json → Entry
-put_entry who kind content = entry.Data who.user None kind content 0
 
 -- ---- events
 

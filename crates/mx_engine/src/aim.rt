@@ -4,7 +4,7 @@ ghost use Rattle.std.specs.Prelude.{◌≡◌};
 ghost use Rattle.mx_engine.specs.Answers.{told_at};
 
 use crate::events::EventDraft;
-use crate::said::{Refusal, Said};
+use mx_ask::{Refusal, Said};
 use mx_ids::{EventId, RoomId};
 
 /// What is told of a write.

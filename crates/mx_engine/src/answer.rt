@@ -1,29 +1,24 @@
 //! The answer to what a user asks.
 
-ghost use Rattle.std.specs.Prelude.{◌≡◌, IfOk, option_and_then};
-ghost use Rattle.mx_front.specs.Calls.{Shows};
-ghost use Rattle.mx_engine.specs.Answers.{AllBegin, IsAnswered, IsDone, account_at, ahead_of, asked, begun_at, made_for, sync_said, whoami_said};
-ghost use Rattle.mx_engine.specs.Asked.{put_entry};
-ghost use Rattle.mx_engine.specs.Shown.{HasLooked, IsAsk, LooksFor, Ties, lists_of, made_of, site_of, stops_of};
-ghost use Rattle.mx_engine.specs.declared.ask.Ask.TheVariants as asks;
+ghost use Rattle.std.specs.Prelude.{◌≡◌, IfOk};
+ghost use Rattle.mx_ask.specs.Asks.{IsAsk};
+ghost use Rattle.mx_ask.specs.declared.ask.Ask.TheVariants as asks;
+ghost use Rattle.mx_engine.specs.Answers.{IsAnswered, made_for, asked, whoami_said};
+ghost use Rattle.mx_engine.specs.Shown.{LooksFor, Ties, made_of, site_of, stops_of, stores_of};
 
 use crate::answered::Answered;
-use crate::ask::{Ask, Who};
 use crate::held::{Engine, EnginePass};
-use crate::said::{Refusal, Reply, Said};
-use mx_account::{Entry, data_after};
-use mx_event::Event;
-use mx_ids::{Copied, Memory, SyncToken, Text, UserId};
-use mx_json::Json;
-use mx_lanes::Parts;
-use mx_receipt::Receipt;
+use mx_ask::{Ask, Said, Who};
+use mx_entries::RuleChange;
+use mx_ids::{Copied, Memory, Text};
 use mx_writers::Gate;
 use std::alloc::Global;
 use std::sync::Wait;
 
 impl<G: Gate + Drop> Engine<G> {
     /// Answers what a user asks (*Answer*), on what the pass has then seen: at least what it had seen before. `now` is the
-    /// clock's reading of the request, in milliseconds since 1970. The pass is one of this engine's. A refusal stores nothing.
+    /// clock's reading of the request, in milliseconds since 1970. The pass is one of this engine's. A refusal stores nothing, but
+    /// for `m.fully_read` of a call whose receipts then find their stream full.
     /// Waits for turns at the streams.
     pub fn answer<R: Wait>(
         &self,
@@ -37,7 +32,7 @@ impl<G: Gate + Drop> Engine<G> {
         requires ties { Ties self.now pass.old }
         requires ask { IsAsk ask }
         ensures ties { Ties self.now pass.new }
-        ensures answered { IsAnswered (site_of self.now) (stops_of self.now) now who.now ask (lists_of pass.old) (lists_of pass.new) result }
+        ensures answered { IsAnswered (site_of self.now) (stops_of self.now) now who.now ask (stores_of pass.old) (stores_of pass.new) result }
         ensures made { made_of pass.new ≡ made_for (asked (site_of self.now) now who.now ask) result.mark (made_of pass.old) }
         ensures looks { LooksFor ask pass.old pass.new }
         ensures now { result.mark.now ≡ now }
@@ -99,24 +94,115 @@ impl<G: Gate + Drop> Engine<G> {
                 let aim = self.unban_aim(alloc, now, who, &room, user, reason);
                 self.send(rt, alloc, pass, now, aim)
             }
-            Ask::Sync { since } => self.sync(rt, alloc, pass, now, who, since),
-            Ask::PutAccount { kind, content } => {
-                let shard = self.writer_for(&who.user);
-                self.put(
-                    rt,
-                    alloc,
-                    pass,
-                    now,
-                    shard,
-                    entry(alloc, who, kind, content),
-                )
+            Ask::Messages {
+                room,
+                backward,
+                from,
+                to,
+                limit,
+                filter,
+            } => self.messages(
+                rt, alloc, pass, now, who, &room, backward, from, to, limit, &filter,
+            ),
+            Ask::Sync {
+                since,
+                filter,
+                full_state,
+            } => self.sync(rt, alloc, pass, now, who, since, filter, full_state),
+            Ask::JoinedRooms => self.joined_rooms(rt, alloc, pass, now, who),
+            Ask::GetState { room, kind, key } => {
+                self.state_content(rt, alloc, pass, now, who, &room, &kind, &key)
+            }
+            Ask::AllState { room } => self.room_state(rt, alloc, pass, now, who, &room),
+            Ask::Members {
+                room,
+                membership,
+                not_membership,
+            } => self.room_members(
+                rt,
+                alloc,
+                pass,
+                now,
+                who,
+                &room,
+                &membership,
+                &not_membership,
+            ),
+            Ask::OneEvent { room, event } => {
+                self.one_event(rt, alloc, pass, now, who, &room, &event)
+            }
+            Ask::PutFilter { filter } => self.put_filter(rt, alloc, pass, now, who, filter),
+            Ask::GetFilter { id } => self.stored_filter(rt, alloc, pass, now, who, &id),
+            Ask::PutAccount {
+                room,
+                kind,
+                content,
+            } => self.put_account(rt, alloc, pass, now, who, room, kind, content),
+            Ask::GetAccount { room, kind } => {
+                self.account_value(rt, alloc, pass, now, who, &room, &kind)
+            }
+            Ask::Tags { room } => self.room_tags(rt, alloc, pass, now, who, &room),
+            Ask::PutTag { room, tag, body } => {
+                self.put_tag(rt, alloc, pass, now, who, &room, tag, body)
+            }
+            Ask::DeleteTag { room, tag } => self.end_tag(rt, alloc, pass, now, who, &room, tag),
+            Ask::Receipt { room, kind, event } => match kind {
+                None => self.put_marker(rt, alloc, pass, now, who, &room, event),
+                Some(kind) => self.put_receipt(rt, alloc, pass, now, who, &room, kind, &event),
+            },
+            Ask::ReadMarkers {
+                room,
+                fully_read,
+                read,
+                private,
+            } => match fully_read {
+                None => self.put_receipts(rt, alloc, pass, now, who, &room, &read, &private),
+                Some(event) => {
+                    self.put_markers(rt, alloc, pass, now, who, &room, event, &read, &private)
+                }
+            },
+            Ask::PushRules { inner } => self.push_rules(rt, alloc, pass, now, who, inner),
+            Ask::GetRule { kind, id } => self.push_rule(rt, alloc, pass, now, who, kind, &id),
+            Ask::PutRule {
+                kind,
+                id,
+                body,
+                before,
+                after,
+            } => {
+                let change = RuleChange::Put {
+                    kind,
+                    id,
+                    body,
+                    before,
+                    after,
+                };
+                self.change_rules(rt, alloc, pass, now, who, change)
+            }
+            Ask::DeleteRule { kind, id } => {
+                let change = RuleChange::Remove { kind, id };
+                self.change_rules(rt, alloc, pass, now, who, change)
+            }
+            Ask::GetEnabled { kind, id } => {
+                self.rule_enabled(rt, alloc, pass, now, who, kind, &id)
+            }
+            Ask::PutEnabled { kind, id, on } => {
+                let change = RuleChange::Enable { kind, id, on };
+                self.change_rules(rt, alloc, pass, now, who, change)
+            }
+            Ask::GetActions { kind, id } => {
+                self.rule_actions(rt, alloc, pass, now, who, kind, &id)
+            }
+            Ask::PutActions { kind, id, body } => {
+                let change = RuleChange::Act { kind, id, body };
+                self.change_rules(rt, alloc, pass, now, who, change)
             }
         }
     }
 
     /// Who asks.
     fn whoami(&self, alloc: Global, pass: &EnginePass, now: u64, who: &Who) -> Answered
-        ensures answered { IsAnswered (site_of self.now) (stops_of self.now) now who.now asks.WhoAmI (lists_of pass.now) (lists_of pass.now) result }
+        ensures answered { IsAnswered (site_of self.now) (stops_of self.now) now who.now asks.WhoAmI (stores_of pass.now) (stores_of pass.now) result }
         ensures now { result.mark.now ≡ now }
     {
         match self.named(alloc, who) {
@@ -139,159 +225,4 @@ impl<G: Gate + Drop> Engine<G> {
         };
         Ok(Said::Named(who.user.copy(alloc)?, name))
     }
-
-    /// A sync.
-    fn sync<R: Wait>(
-        &self,
-        rt: &R,
-        alloc: Global,
-        pass: &mut EnginePass,
-        now: u64,
-        who: &Who,
-        since: Option<SyncToken>,
-    ) -> Answered
-        requires ties { Ties self.now pass.old }
-        ensures ties { Ties self.now pass.new }
-        ensures answered { IsAnswered (site_of self.now) (stops_of self.now) now who.now (asks.Sync since) (lists_of pass.old) (lists_of pass.new) result }
-        ensures made { made_of pass.new ≡ made_of pass.old }
-        ensures looks { HasLooked pass.old pass.new }
-        ensures now { result.mark.now ≡ now }
-    {
-        match self.look(rt, alloc, pass) {
-            Err(_) => pass.no_memory(now),
-            Ok((events, receipts, accounts)) => {
-                match sync_said(
-                    alloc,
-                    &who.user,
-                    events.front(),
-                    receipts.front(),
-                    &accounts,
-                    since,
-                ) {
-                    Err(_) => pass.no_memory(now),
-                    Ok(said) => Answered {
-                        said,
-                        mark: pass.mark(now),
-                    },
-                }
-            }
-        }
-    }
-
-    /// A look at each stream.
-    fn look<R: Wait>(
-        &self,
-        rt: &R,
-        alloc: Global,
-        pass: &mut EnginePass,
-    ) -> Result<(Parts<Event>, Parts<Receipt>, Parts<Entry>), Memory>
-        requires ties { Ties self.now pass.old }
-        ensures ties { Ties self.now pass.new }
-        ensures begins { AllBegin (lists_of pass.old) (lists_of pass.new) }
-        ensures made { made_of pass.new ≡ made_of pass.old }
-        ensures looks { HasLooked pass.old pass.new }
-        ensures parts { IfOk result (λ p. Shows (lists_of pass.new).events p.0 × Shows (lists_of pass.new).receipts p.1 × Shows (lists_of pass.new).accounts p.2) }
-    {
-        let events = pass.events.look(rt, alloc, self.events.stream());
-        let receipts = pass.receipts.look(rt, alloc, self.receipts.stream());
-        let accounts = pass.accounts.look(rt, alloc, self.accounts.stream());
-        Ok((events?, receipts?, accounts?))
-    }
-}
-
-/// The entry that puts global account data of the caller.
-fn entry(alloc: Global, who: &Who, kind: Text, content: Json) -> Result<Entry, Memory>
-    ensures { IfOk result (λ e. e ≡ put_entry who.now kind content) }
-{
-    Ok(Entry::Data {
-        user: who.user.copy(alloc)?,
-        room: None,
-        kind,
-        content,
-        at: 0,
-    })
-}
-
-/// What a sync is told, at the fronts of events and receipts and on the account data up to their front.
-#[tactic(auto, unfolding(crate::specs::Answers::sync_said))]
-fn sync_said(
-    alloc: Global,
-    user: &UserId,
-    e: u64,
-    r: u64,
-    accounts: &Parts<Entry>,
-    since: Option<SyncToken>,
-) -> Result<Said, Memory>
-    ensures { IfOk result (λ said. said ≡ sync_said user.now e r accounts.now.items since) }
-{
-    let a = accounts.front();
-    if let Some(refusal) = refusal_of(since, e, r, a) {
-        return Ok(Said::Refused(refusal));
-    }
-    let account = data_after(alloc, user, None, accounts, account_at(since))?;
-    Ok(Said::Synced(Reply {
-        since,
-        next: SyncToken {
-            e,
-            r,
-            a,
-            d: 0,
-            b: begun_at(e, since),
-        },
-        account,
-    }))
-}
-
-fn begun_at(e: u64, since: Option<SyncToken>) -> u64
-    ensures { result ≡ begun_at e since }
-{
-    match since {
-        None => e,
-        Some(token) => token.b,
-    }
-}
-
-/// The position of account data behind which a sync tells what was set.
-fn account_at(since: Option<SyncToken>) -> u64
-    ensures { result ≡ account_at since }
-{
-    match since {
-        None => 0,
-        Some(token) => token.a,
-    }
-}
-
-/// Why a token that a sync is to follow is refused.
-fn refusal_of(since: Option<SyncToken>, e: u64, r: u64, a: u64) -> Option<Refusal>
-    ensures { result ≡ option_and_then (λ token. ahead_of token e r a) since }
-{
-    match since {
-        Some(token) => ahead_of(token, e, r, a),
-        None => None,
-    }
-}
-
-/// The first component of a token that exceeds its stream's front.
-fn ahead_of(token: SyncToken, e: u64, r: u64, a: u64) -> Option<Refusal>
-    ensures { result ≡ ahead_of token e r a }
-{
-    if e < token.e {
-        return Some(ahead(token.e, e));
-    }
-    if r < token.r {
-        return Some(ahead(token.r, r));
-    }
-    if a < token.a {
-        return Some(ahead(token.a, a));
-    }
-    if 0 < token.d {
-        return Some(ahead(token.d, 0));
-    }
-    None
-}
-
-fn ahead(asked: u64, front: u64) -> Refusal
-    ensures { result ≡ Refusal.TokenAhead asked front }
-{
-    Refusal::TokenAhead { asked, front }
 }

@@ -4,6 +4,7 @@ ghost use Rattle.std.specs.Prelude.{◌≡◌, IfOk, OnOk, codes};
 ghost use Rattle.mx_json.specs.Keys.{with_member};
 ghost use Rattle.mx_json.specs.declared.value.Json.TheVariants as json;
 ghost use Rattle.mx_engine.specs.Asked.{member_content, redaction_content};
+ghost use Rattle.mx_engine.specs.Stored.{fully_read};
 
 use mx_ids::{Memory, Text};
 use mx_json::{Json, Members};
@@ -53,6 +54,15 @@ pub(crate) fn redaction_content(
             Ok(Json::Object(members))
         }
     }
+}
+
+/// The content of `m.fully_read` (Client-Server API, Fully read markers).
+pub(crate) fn fully_read(alloc: Global, event: Text) -> Result<Json, Memory>
+    ensures { IfOk result (λ j. j ≡ fully_read event) }
+{
+    let mut members = Members::new(alloc);
+    members.push(text(alloc, "event_id")?, Json::Text(event))?;
+    Ok(Json::Object(members))
 }
 
 fn put(alloc: Global, members: &mut Members<Json>, key: &str, value: Json) -> Result<(), Memory>

@@ -3,13 +3,13 @@
 ghost use Rattle.std.specs.Prelude.{◌≡◌, ◌≤◌};
 ghost use Rattle.mx_front.specs.Shown.{writers_of};
 
-use crate::accounts::Accounts;
 use crate::events::Rooms;
-use crate::receipts::Receipts;
 use crate::seat::Seat;
 use mx_account::Entry;
+use mx_entries::{Accounts, Receipts};
 use mx_event::Event;
 use mx_receipt::Receipt;
+use mx_snapshot::Snapshot;
 use mx_users::Directory;
 use mx_writers::{Gate, Writers};
 
@@ -28,10 +28,11 @@ pub struct Engine<G: Gate + Drop> {
     ghost of_accounts: { writers_of accounts.stream ≡ workers },
 }
 
-/// A reader of the streams of an engine.
+/// A reader of the streams of an engine, with what it knows of them: the snapshot goes on at each look.
 #[derive(Drop)]
 pub struct EnginePass {
     pub(crate) events: Seat<Event>,
     pub(crate) receipts: Seat<Receipt>,
     pub(crate) accounts: Seat<Entry>,
+    pub(crate) snapshot: Snapshot,
 }

@@ -1,6 +1,5 @@
 //! Laws over asks and exchanges: functions that do nothing, whose contracts hold of all of them; and what crosses threads.
 
-ghost use Rattle.mx_engine.specs.Chains.{ChainsAgree};
 ghost use Rattle.mx_engine.specs.Exchanges.{ServesMore, ServesNone};
 ghost use Rattle.mx_engine.specs.Repeats.{RepeatsStay};
 
@@ -15,13 +14,6 @@ use mx_writers::Gate;
 pub fn exchanges_go_on()
     ensures none { ServesNone }
     ensures more { ServesMore }
-{}
-
-/// Whatever is asked on a pass, and whatever others store in between, each client that takes the replies of its device
-/// holds at its token the account data of its user (Client-Server API, Syncing).
-#[tactic(auto, using(crate::proofs::Agreement::chains_agree))]
-pub fn chains_agree()
-    ensures { ChainsAgree }
 {}
 
 /// Where the transactions of a writer's events name their rooms, as each `Ask` does, a repeat in a transaction is an event of

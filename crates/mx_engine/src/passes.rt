@@ -1,13 +1,15 @@
 //! More passes of an engine, and two that meet.
 
 ghost use Rattle.std.specs.Prelude.{◌≡◌, IfOk, IsOk};
-ghost use Rattle.mx_engine.specs.Answers.{AllBegin};
-ghost use Rattle.mx_engine.specs.Shown.{Ties, lists_of, made_of, none_made};
+ghost use Rattle.mx_fold.specs.Lists.{Grows};
+ghost use Rattle.mx_engine.specs.Shown.{Ties, stores_of, made_of, none_made};
 
 use crate::held::{Engine, EnginePass};
 use mx_ids::Memory;
+use mx_snapshot::Snapshot;
 use mx_users::Directory;
 use mx_writers::Gate;
+use std::alloc::Global;
 
 impl<G: Gate + Drop> Engine<G> {
     /// The users of the server, found by look-ups. Takes no memory.
@@ -18,11 +20,11 @@ impl<G: Gate + Drop> Engine<G> {
     }
 
     /// A new pass that has seen what a pass of this engine has seen, and with which no store was made. Always `Ok`.
-    pub fn pass(&self, from: &mut EnginePass) -> Result<EnginePass, Memory>
+    pub fn pass(&self, alloc: Global, from: &mut EnginePass) -> Result<EnginePass, Memory>
         requires ties { Ties self.now from.old }
         ensures ok { IsOk result }
-        ensures from { Ties self.now from.new × (lists_of from.new ≡ lists_of from.old) × (made_of from.new ≡ made_of from.old) }
-        ensures pass { IfOk result (λ pass. Ties self.now pass × (lists_of pass ≡ lists_of from.old) × (made_of pass ≡ none_made)) }
+        ensures from { Ties self.now from.new × (stores_of from.new ≡ stores_of from.old) × (made_of from.new ≡ made_of from.old) }
+        ensures pass { IfOk result (λ pass. Ties self.now pass × (stores_of pass ≡ stores_of from.old) × (made_of pass ≡ none_made)) }
     {
         let events = from.events.parted(self.events.stream())?;
         let receipts = from.receipts.parted(self.receipts.stream())?;
@@ -31,6 +33,7 @@ impl<G: Gate + Drop> Engine<G> {
             events,
             receipts,
             accounts,
+            snapshot: Snapshot::new(alloc),
         })
     }
 
@@ -39,13 +42,14 @@ impl<G: Gate + Drop> Engine<G> {
         requires ties { Ties self.now pass.old × Ties self.now other }
         ensures ties { Ties self.now pass.new }
         ensures made { made_of pass.new ≡ made_of pass.old }
-        ensures own { AllBegin (lists_of pass.old) (lists_of pass.new) }
-        ensures other { AllBegin (lists_of other) (lists_of pass.new) }
+        ensures own { Grows (stores_of pass.old) (stores_of pass.new) }
+        ensures other { Grows (stores_of other) (stores_of pass.new) }
     {
         let EnginePass {
             events,
             receipts,
             accounts,
+            snapshot: _,
         } = other;
         pass.events.meet(self.events.stream(), events);
         pass.receipts.meet(self.receipts.stream(), receipts);

@@ -1,19 +1,24 @@
 //! What an engine's pass has seen, and the marks of answers that write nothing.
 
-ghost use Rattle.std.specs.Prelude.{◌≡◌, true};
-ghost use Rattle.mx_engine.specs.Answers.{AllBegin, counts_of, reading};
-ghost use Rattle.mx_engine.specs.Shown.{HasLooked, Ties, lists_of, made_of};
+ghost use Rattle.std.specs.Prelude.{◌≡◌, true, IfOk, OnOk};
+ghost use Rattle.mx_engine.specs.Answers.{IsDone, Reads, Stops, counts_of, reading};
+ghost use Rattle.mx_engine.specs.Shown.{HasLooked, Ties, known_of, made_of, stores_of};
+ghost use Rattle.mx_fold.specs.Lists.{Grows, Histories, Lists, lists_of};
+ghost use Rattle.mx_rest.specs.Servers.{AreValid};
+ghost use Rattle.mx_ask.specs.declared.said.Said.{Said};
 
 use crate::answered::{Answered, Counts, Mark};
 use crate::held::{Engine, EnginePass};
-use crate::said::Said;
+use mx_ask::{Refusal, Said};
+use mx_ids::Memory;
 use mx_writers::Gate;
+use std::alloc::Global;
 use std::sync::Wait;
 
 impl EnginePass {
     /// The number of stores of each stream that the pass has seen. Takes no memory.
     pub(crate) fn counts(&self) -> Counts
-        ensures { result ≡ counts_of (lists_of self.now) }
+        ensures { result ≡ counts_of (stores_of self.now) }
     {
         Counts {
             events: self.events.stores(),
@@ -24,7 +29,7 @@ impl EnginePass {
 
     /// The mark of an answer that writes nothing and looks at no stream. Takes no memory.
     pub fn mark(&self, now: u64) -> Mark
-        ensures { result ≡ reading now (lists_of self.now) }
+        ensures { result ≡ reading now (stores_of self.now) }
     {
         Mark {
             events: self.events.stores(),
@@ -39,10 +44,35 @@ impl EnginePass {
         }
     }
 
+    /// The answer that was read off what the pass knows.
+    pub(crate) fn told(&self, now: u64, said: Result<Said, Memory>) -> Answered
+        ensures done { (stops : Stops) (reads : Lists → Said) (old : Histories) → Grows old (stores_of self.now) → IfOk said (λ s. s ≡ reads (lists_of (stores_of self.now))) → IsDone stops (Reads reads) old (stores_of self.now) result }
+        ensures now { result.mark.now ≡ now }
+    {
+        match said {
+            Err(_) => self.no_memory(now),
+            Ok(said) => Answered {
+                said,
+                mark: self.mark(now),
+            },
+        }
+    }
+
+    /// The refusal of a request before a writer is asked.
+    pub(crate) fn refused(&self, now: u64, refusal: Refusal) -> Answered
+        ensures said { result.said ≡ Said.Refused refusal }
+        ensures mark { result.mark ≡ reading now (stores_of self.now) }
+    {
+        Answered {
+            said: Said::Refused(refusal),
+            mark: self.mark(now),
+        }
+    }
+
     /// The answer where memory was wanting before a writer was asked.
     pub(crate) fn no_memory(&self, now: u64) -> Answered
         ensures said { result.said ≡ Said.NoMemory }
-        ensures mark { result.mark ≡ record (reading now (lists_of self.now)) { memory = true } }
+        ensures mark { result.mark ≡ record (reading now (stores_of self.now)) { memory = true } }
     {
         let mark = self.mark(now);
         Answered {
@@ -60,12 +90,33 @@ impl<G: Gate + Drop> Engine<G> {
     pub(crate) fn glance<R: Wait>(&self, rt: &R, pass: &mut EnginePass)
         requires ties { Ties self.now pass.old }
         ensures ties { Ties self.now pass.new }
-        ensures begins { AllBegin (lists_of pass.old) (lists_of pass.new) }
+        ensures begins { Grows (stores_of pass.old) (stores_of pass.new) }
         ensures made { made_of pass.new ≡ made_of pass.old }
         ensures looks { HasLooked pass.old pass.new }
     {
         pass.events.glance(rt, self.events.stream());
         pass.receipts.glance(rt, self.receipts.stream());
         pass.accounts.glance(rt, self.accounts.stream());
+    }
+
+    /// A look at each stream, after which the pass knows what it has seen.
+    pub(crate) fn look<R: Wait>(
+        &self,
+        rt: &R,
+        alloc: Global,
+        pass: &mut EnginePass,
+    ) -> Result<(), Memory>
+        requires ties { Ties self.now pass.old }
+        ensures ties { Ties self.now pass.new }
+        ensures begins { Grows (stores_of pass.old) (stores_of pass.new) }
+        ensures made { made_of pass.new ≡ made_of pass.old }
+        ensures looks { HasLooked pass.old pass.new }
+        ensures known { OnOk result (known_of pass.new ≡ lists_of (stores_of pass.new)) }
+        ensures valid { OnOk result (AreValid (known_of pass.new)) }
+    {
+        let events = pass.events.look(rt, alloc, self.events.stream());
+        let receipts = pass.receipts.look(rt, alloc, self.receipts.stream());
+        let accounts = pass.accounts.look(rt, alloc, self.accounts.stream());
+        pass.snapshot.advance(alloc, events?, receipts?, accounts?)
     }
 }

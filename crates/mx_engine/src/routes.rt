@@ -8,13 +8,12 @@ ghost use Rattle.mx_engine.specs.Asked.{invites_stranger, member_event, room_of,
 ghost use Rattle.mx_engine.specs.Shown.{IsWithin, aimed_of, site_of};
 
 use crate::aim::{Aim, Told};
-use crate::ask::Who;
 use crate::contents::{member_content, redaction_content, text};
 use crate::creation::Creation;
 use crate::events::EventDraft;
 use crate::held::Engine;
-use crate::said::Refusal;
 use crate::writes::create_refusal;
+use mx_ask::{Refusal, Who};
 use mx_create::{CreateFault, block};
 use mx_event::event_types::{MEMBER, REDACTION};
 use mx_event::{Draft, Txn};
@@ -245,7 +244,7 @@ impl<G: Gate + Drop> Engine<G> {
     }
 
     /// The room that a text names, if it has one of the server's writers. Takes no memory.
-    fn room_of(&self, room: &Text) -> Option<RoomId>
+    pub(crate) fn room_of(&self, room: &Text) -> Option<RoomId>
         ensures is { result ≡ room_of (site_of self.now) room.now }
         ensures within { IfSome result (λ r. r.writer < self.now.workers) }
     {

@@ -4,17 +4,16 @@ ghost use Rattle.std.specs.Prelude.{◌≡◌, ◌≤◌, [], IfOk};
 ghost use Rattle.mx_front.specs.Shown.{place_of, place_of_pass, seen_by, stop_of, writers_of};
 ghost use Rattle.mx_writers.specs.Start.{AreFreshFolds};
 ghost use Rattle.mx_engine.specs.Answers.{nothing};
-ghost use Rattle.mx_engine.specs.Shown.{Ties, lists_of, made_of, none_made, site_of, stops_of};
+ghost use Rattle.mx_engine.specs.Shown.{Ties, stores_of, made_of, none_made, site_of, stops_of};
 
-use crate::accounts::Accounts;
 use crate::events::Rooms;
 use crate::held::{Engine, EnginePass};
-use crate::receipts::Receipts;
 use crate::seat::Seat;
-use crate::shelf::Shelf;
+use mx_entries::{Accounts, Receipts, accounts, receipts};
 use mx_front::stream;
 use mx_ids::{Memory, Seq};
 use mx_room::book;
+use mx_snapshot::Snapshot;
 use mx_users::Directory;
 use mx_writers::{Folds, Gate, Writers, writers};
 use std::alloc::Global;
@@ -40,7 +39,7 @@ pub fn engine<G: Gate + Drop>(
     ensures ties { IfOk result (λ r. Ties r.0 r.1) }
     ensures site { IfOk result (λ r. site_of r.0 ≡ record { users = setup.users; writers = setup.workers }) }
     ensures stops { IfOk result (λ r. stops_of r.0 ≡ record { events = setup.stop; receipts = setup.stop; accounts = setup.stop }) }
-    ensures nothing { IfOk result (λ r. lists_of r.1 ≡ nothing) }
+    ensures nothing { IfOk result (λ r. stores_of r.1 ≡ nothing) }
     ensures made { IfOk result (λ r. made_of r.1 ≡ none_made) }
 {
     let Setup {
@@ -49,21 +48,32 @@ pub fn engine<G: Gate + Drop>(
         stop,
     } = setup;
     let (events, event_pass) = started(alloc, workers, stop, all_rooms(alloc, workers)?)?;
-    let (receipts, receipt_pass) = started(alloc, workers, stop, all_receipts(alloc, workers)?)?;
-    let (accounts, account_pass) = started(alloc, workers, stop, all_accounts(alloc, workers)?)?;
+    let (receipt_writers, receipt_pass) = started(
+        alloc,
+        workers,
+        stop,
+        all_receipts(alloc, workers)?,
+    )?;
+    let (account_writers, account_pass) = started(
+        alloc,
+        workers,
+        stop,
+        all_accounts(alloc, workers)?,
+    )?;
     Ok((
         Engine {
             users,
             workers,
             events,
-            receipts,
-            accounts,
+            receipts: receipt_writers,
+            accounts: account_writers,
             gate,
         },
         EnginePass {
             events: event_pass,
             receipts: receipt_pass,
             accounts: account_pass,
+            snapshot: Snapshot::new(alloc),
         },
     ))
 }
@@ -102,9 +112,7 @@ fn all_receipts(alloc: Global, workers: u8) -> Result<Seq<Receipts>, Memory>
 {
     let mut all = Seq::new(alloc);
     'writers: for writer in 0..workers {
-        all.push(Receipts {
-            shelf: Shelf::new(alloc, writer),
-        })?;
+        all.push(receipts(alloc, writer))?;
     }
     Ok(all)
 }
@@ -114,9 +122,7 @@ fn all_accounts(alloc: Global, workers: u8) -> Result<Seq<Accounts>, Memory>
 {
     let mut all = Seq::new(alloc);
     'writers: for writer in 0..workers {
-        all.push(Accounts {
-            shelf: Shelf::new(alloc, writer),
-        })?;
+        all.push(accounts(alloc, writer))?;
     }
     Ok(all)
 }

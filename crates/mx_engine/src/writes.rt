@@ -1,21 +1,24 @@
 //! Writes, and their marks.
 
-ghost use Rattle.std.specs.Prelude.{◌≡◌, ◌<◌, ◌≤◌, Ok, Err, IfOk};
-ghost use Rattle.mx_engine.specs.Answers.{Act, IsDone, Puts, Sends, made_for, event_refusal, never, told_at};
+ghost use Rattle.std.specs.Prelude.{◌≡◌, List, IfOk};
+ghost use Rattle.mx_engine.specs.Answers.{IsDone, Marks, Puts, Sends, made_for, event_refusal, told_at};
 ghost use Rattle.mx_engine.specs.Asked.{Aimed, create_refusal};
 ghost use Rattle.mx_engine.specs.EventsDecided.{plan_of};
-ghost use Rattle.mx_engine.specs.Shown.{HasLooked, IsWithin, Ties, aimed_of, lists_of, made_of, stops_of};
+ghost use Rattle.mx_engine.specs.Shown.{HasLooked, IsEntryWithin, IsReceiptWithin, IsWithin, LooksOn, Ties, aimed_of, entry_aimed_of, made_of, receipt_aimed_of, stops_of, stores_of};
+ghost use Rattle.mx_engine.specs.Stored.{EntryAimed, ReceiptAimed, entry_refusal, never};
+ghost use Rattle.mx_event.specs.declared.event.Event.{Event};
+ghost use Rattle.mx_fold.specs.Lists.{Grows, Histories, lists_of};
 ghost use Rattle.mx_engine.specs.Written.{IsWritten, mark_by, own_by, said_by};
 
-use crate::accounts::Never;
 use crate::aim::{Aim, Told};
 use crate::answered::{Answered, Counts, Mark};
-use crate::events::{EventDraft, EventFault};
+use crate::entry_aims::{EntryAim, ReceiptAim};
+use crate::events::EventFault;
 use crate::held::{Engine, EnginePass};
-use crate::said::{Refusal, Said};
 use crate::seat::write_on;
-use mx_account::Entry;
+use mx_ask::{Refusal, Said};
 use mx_create::CreateFault;
+use mx_entries::{EntryFault, Never};
 use mx_ids::Memory;
 use mx_room::RoomFault;
 use mx_writers::{Gate, Refused, Written};
@@ -35,7 +38,7 @@ impl<G: Gate + Drop> Engine<G> {
         requires ties { Ties self.now pass.old }
         requires within { IfOk aim (IsWithin self.now.workers) }
         ensures ties { Ties self.now pass.new }
-        ensures done { (aimed : Aimed) → IfOk aim (λ a. aimed_of a ≡ aimed) → IsDone (stops_of self.now) (Sends aimed) (lists_of pass.old) (lists_of pass.new) result }
+        ensures done { (aimed : Aimed) → IfOk aim (λ a. aimed_of a ≡ aimed) → IsDone (stops_of self.now) (Sends aimed) (stores_of pass.old) (stores_of pass.new) result }
         ensures made { (aimed : Aimed) → IfOk aim (λ a. aimed_of a ≡ aimed) → made_of pass.new ≡ made_for (Sends aimed) result.mark (made_of pass.old) }
         ensures looks { HasLooked pass.old pass.new }
         ensures now { result.mark.now ≡ now }
@@ -43,10 +46,7 @@ impl<G: Gate + Drop> Engine<G> {
         self.glance(rt, pass);
         match aim {
             Err(_) => pass.no_memory(now),
-            Ok(Aim::Refused(refusal)) => Answered {
-                said: Said::Refused(refusal),
-                mark: pass.mark(now),
-            },
+            Ok(Aim::Refused(refusal)) => pass.refused(now, refusal),
             Ok(Aim::Write(shard, draft, told)) => {
                 let answer = write_on(
                     rt,
@@ -66,34 +66,33 @@ impl<G: Gate + Drop> Engine<G> {
         }
     }
 
-    /// What is answered to a put of account data.
+    /// What is answered to a request for a write of account data, by the events that the pass has seen.
     pub(crate) fn put<R: Wait>(
         &self,
         rt: &R,
         alloc: Global,
         pass: &mut EnginePass,
         now: u64,
-        shard: u8,
-        entry: Result<Entry, Memory>,
+        aim: Result<EntryAim, Memory>,
     ) -> Answered
         requires ties { Ties self.now pass.old }
-        requires within { shard < self.now.workers }
+        requires within { IfOk aim (IsEntryWithin self.now.workers) }
         ensures ties { Ties self.now pass.new }
-        ensures done { (e : Entry) → IfOk entry (λ x. x ≡ e) → IsDone (stops_of self.now) (Puts shard e) (lists_of pass.old) (lists_of pass.new) result }
-        ensures made { (e : Entry) → IfOk entry (λ x. x ≡ e) → made_of pass.new ≡ made_for (Puts shard e) result.mark (made_of pass.old) }
-        ensures looks { HasLooked pass.old pass.new }
+        ensures done { (aims : List Event → EntryAimed) (old : Histories) → Grows old (stores_of pass.old) → IfOk aim (λ a. entry_aimed_of a ≡ aims (lists_of (stores_of pass.old)).events) → IsDone (stops_of self.now) (Puts aims) old (stores_of pass.new) result }
+        ensures made { (aims : List Event → EntryAimed) → made_of pass.new ≡ made_for (Puts aims) result.mark (made_of pass.old) }
+        ensures looks { LooksOn pass.old pass.new }
         ensures now { result.mark.now ≡ now }
     {
-        self.glance(rt, pass);
-        match entry {
+        match aim {
             Err(_) => pass.no_memory(now),
-            Ok(entry) => {
+            Ok(EntryAim::Refused(refusal)) => pass.refused(now, refusal),
+            Ok(EntryAim::Write(shard, draft)) => {
                 let answer = write_on(
                     rt,
                     alloc,
                     &self.accounts,
                     shard,
-                    entry,
+                    draft,
                     &self.gate,
                     &mut pass.accounts,
                 );
@@ -105,10 +104,54 @@ impl<G: Gate + Drop> Engine<G> {
             }
         }
     }
+
+    /// What is answered to a request for a write of receipts, by the events that the pass has seen.
+    pub(crate) fn mark<R: Wait>(
+        &self,
+        rt: &R,
+        alloc: Global,
+        pass: &mut EnginePass,
+        now: u64,
+        aim: Result<ReceiptAim, Memory>,
+    ) -> Answered
+        requires ties { Ties self.now pass.old }
+        requires within { IfOk aim (IsReceiptWithin self.now.workers) }
+        ensures ties { Ties self.now pass.new }
+        ensures done { (aims : List Event → ReceiptAimed) (old : Histories) → Grows old (stores_of pass.old) → IfOk aim (λ a. receipt_aimed_of a ≡ aims (lists_of (stores_of pass.old)).events) → IsDone (stops_of self.now) (Marks aims) old (stores_of pass.new) result }
+        ensures made { (aims : List Event → ReceiptAimed) → made_of pass.new ≡ made_for (Marks aims) result.mark (made_of pass.old) }
+        ensures looks { LooksOn pass.old pass.new }
+        ensures now { result.mark.now ≡ now }
+    {
+        match aim {
+            Err(_) => pass.no_memory(now),
+            Ok(ReceiptAim::Refused(refusal)) => pass.refused(now, refusal),
+            Ok(ReceiptAim::Write(shard, draft)) => {
+                let answer = write_on(
+                    rt,
+                    alloc,
+                    &self.receipts,
+                    shard,
+                    draft,
+                    &self.gate,
+                    &mut pass.receipts,
+                );
+                let mark = mark_by(shard, pass.counts(), now, &answer);
+                Answered {
+                    said: marked_said(answer),
+                    mark,
+                }
+            }
+        }
+    }
 }
 
 /// The mark of a write by a writer.
-fn mark_by<E>(shard: u8, seen: Counts, now: u64, answer: &Result<Written, Refused<E>>) -> Mark
+pub(crate) fn mark_by<E>(
+    shard: u8,
+    seen: Counts,
+    now: u64,
+    answer: &Result<Written, Refused<E>>,
+) -> Mark
     ensures { result ≡ mark_by shard seen now answer.now }
 {
     let (lane, own, full, memory) = match answer {
@@ -131,7 +174,7 @@ fn mark_by<E>(shard: u8, seen: Counts, now: u64, answer: &Result<Written, Refuse
 }
 
 /// The position of a write, if it stored something.
-fn own_by(written: &Written) -> Option<u64>
+pub(crate) fn own_by(written: &Written) -> Option<u64>
     ensures { result ≡ own_by written.now }
 {
     if written.count == 0 {
@@ -153,8 +196,20 @@ fn sent_said(answer: Result<Written, Refused<EventFault>>, told: Told) -> Said
     }
 }
 
-/// What is told of a put.
-fn put_said(answer: Result<Written, Refused<Never>>) -> Said
+/// What is told of a write of account data.
+pub(crate) fn put_said(answer: Result<Written, Refused<EntryFault>>) -> Said
+    ensures { result ≡ said_by entry_refusal (λ at. Said.Done) answer }
+{
+    match answer {
+        Ok(_) => Said::Done,
+        Err(Refused::Fault(fault, _)) => Said::Refused(entry_refusal(fault)),
+        Err(Refused::Full(next, _)) => Said::Refused(Refusal::Full(next)),
+        Err(Refused::Memory) => Said::NoMemory,
+    }
+}
+
+/// What is told of a write of receipts.
+pub(crate) fn marked_said(answer: Result<Written, Refused<Never>>) -> Said
     ensures { result ≡ said_by never (λ at. Said.Done) answer }
 {
     match answer {
@@ -162,6 +217,18 @@ fn put_said(answer: Result<Written, Refused<Never>>) -> Said
         Err(Refused::Fault(fault, _)) => match fault {},
         Err(Refused::Full(next, _)) => Said::Refused(Refusal::Full(next)),
         Err(Refused::Memory) => Said::NoMemory,
+    }
+}
+
+fn entry_refusal(fault: EntryFault) -> Refusal
+    ensures { result ≡ entry_refusal fault }
+{
+    match fault {
+        EntryFault::DefaultRule => Refusal::DefaultRule,
+        EntryFault::NoRule => Refusal::NotFound,
+        EntryFault::BadCondition => Refusal::BadCondition,
+        EntryFault::BadAction => Refusal::BadAction,
+        EntryFault::NoNeighbour(side) => Refusal::NoNeighbour(side),
     }
 }
 

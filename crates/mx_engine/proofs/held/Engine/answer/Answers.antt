@@ -30,9 +30,6 @@ returns-in-Ban-clause-answered g c = rw c.in-Ban.is (c.send-in-Ban.ensures.done 
 pub returns-in-Unban-clause-answered : goal.returns-in-Unban-clause-answered
 returns-in-Unban-clause-answered g c = rw c.in-Unban.is (c.send-in-Unban.ensures.done _ c.unban_aim-aim.ensures.aimed)
 
-pub returns-in-PutAccount-clause-answered : goal.returns-in-PutAccount-clause-answered
-returns-in-PutAccount-clause-answered g c = rw (c.in-PutAccount.is, ← c.writer_for-shard.ensures.is) (c.put.ensures.done _ c.entry.ensures)
-
 pub returns-in-CreateRoom-clause-made : goal.returns-in-CreateRoom-clause-made
 returns-in-CreateRoom-clause-made g c = rw c.in-CreateRoom.is (c.send.ensures.made _ c.create_aim-aim.ensures.aimed)
 
@@ -62,6 +59,3 @@ returns-in-Ban-clause-made g c = rw c.in-Ban.is (c.send-in-Ban.ensures.made _ c.
 
 pub returns-in-Unban-clause-made : goal.returns-in-Unban-clause-made
 returns-in-Unban-clause-made g c = rw c.in-Unban.is (c.send-in-Unban.ensures.made _ c.unban_aim-aim.ensures.aimed)
-
-pub returns-in-PutAccount-clause-made : goal.returns-in-PutAccount-clause-made
-returns-in-PutAccount-clause-made g c = rw c.in-PutAccount.is (c.put.ensures.made _ c.entry.ensures)
