@@ -1,22 +1,23 @@
 -- What a connection asked of the engine are exchanges of its pass.
 use Rattle.std.proofs.Common.{List, [], ◌∷◌, refl, subst}
 use Rattle.mx_http.specs.declared.call.Call.{Call}
-use Rattle.mx_engine.specs.Answers.{Lists, Stops, counts}
+use Rattle.mx_chains.proofs.Chaining.{answers_agree, answers_see}
+use Rattle.mx_fold.specs.Lists.{Histories}
+use Rattle.mx_engine.specs.Answers.{Stops, counts}
 use Rattle.mx_engine.specs.Asked.{Site}
-use Rattle.mx_engine.specs.Chains as engine
 use Rattle.mx_engine.specs.Exchanges.{AreExchanges, AtMost, first_of}
 use Rattle.mx_engine.specs.declared.answered.Answered.{Answered}
 use Rattle.mx_engine.specs.declared.answered.Counts.{Counts}
 use Rattle.mx_engine.specs.declared.answered.Mark.{Mark}
-use Rattle.mx_engine.specs.declared.ask.Request.{Request}
+use Rattle.mx_ask.specs.declared.ask.Request.{Request}
 use Rattle.mx_serve.specs.Answers.{KeepsCall}
 use Rattle.mx_serve.specs.Asked.{call_asked}
-use Rattle.mx_serve.specs.Chains.{ChainsAgree, answers_of, requests_of, with_answer, with_request}
+use Rattle.mx_serve.specs.Chains.{ConnectionsAgree, answers_of, requests_of, with_answer, with_request}
 use Rattle.mx_serve.specs.Exchanges.{AreTurns}
 use Rattle.mx_serve.specs.declared.call_asked.CallAsked.{CallAsked}
 use Rattle.mx_serve.specs.declared.call_asked.CallAsked.TheVariants as call
 
-module _ (site : Site) (stops : Stops) (all : Lists) where
+module _ (site : Site) (stops : Stops) (all : Histories) where
   one : (before : Counts) (asks : CallAsked) (m : Mark) (rs : List Request) (ans : List Answered) → AtMost before (counts m)
       → KeepsCall site stops asks m before (first_of all before) (first_of all (counts m)) → AreExchanges site stops all (counts m) rs ans
       → AreExchanges site stops all before (with_request asks rs) (with_answer site all asks m ans)
@@ -33,7 +34,10 @@ module _ (site : Site) (stops : Stops) (all : Lists) where
   asked_exchanges before (c ∷ calls) [] h = absurd h
   asked_exchanges before [] (m ∷ marks) h = absurd h
 
--- each chain of a connection is one of its exchanges
-pub chains_of : engine.ChainsAgree → ChainsAgree
-chains_of law site stops all before calls marks h user device =
-    law site stops all before (requests_of site.users calls) (answers_of site all calls marks) (asked_exchanges site stops all before calls marks h) user device
+pub connections_agree : ConnectionsAgree
+connections_agree site stops all before calls marks h lawful =
+    let turns = asked_exchanges site stops all before calls marks h in
+    record {
+      agree = answers_agree site stops all before (requests_of site.users calls) (answers_of site all calls marks) turns lawful;
+      see = answers_see site stops all before (requests_of site.users calls) (answers_of site all calls marks) turns lawful;
+    }

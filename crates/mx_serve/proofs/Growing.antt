@@ -1,7 +1,8 @@
 -- The exchanges of a connection over lists that grow, and one exchange more.
 use Rattle.std.proofs.Common.{◌≡◌, ℕ, ◌+◌, List, [], ◌∷◌, ◌++◌, length, refl, sym, ap, ◌∙◌, subst, arith, append_assoc, append-nil, add-zero}
 use Rattle.mx_http.specs.declared.call.Call.{Call}
-use Rattle.mx_engine.specs.Answers.{AllBegin, Lists, Stops, counts, counts_of}
+use Rattle.mx_fold.specs.Lists.{Grows, Histories}
+use Rattle.mx_engine.specs.Answers.{Stops, counts, counts_of}
 use Rattle.mx_engine.specs.Asked.{Site}
 use Rattle.mx_engine.specs.Exchanges.{AtMost, first_of}
 use Rattle.mx_engine.specs.declared.answered.Counts.{Counts}
@@ -14,14 +15,14 @@ use Rattle.mx_serve.specs.Exchanges.{AreTurns, IsExchange, answer_bytes, exchang
 use Rattle.mx_serve.specs.Steps.{Marks}
 
 module _ (site : Site) (stops : Stops) where
-  same_first : (all more : Lists) → AllBegin all more → (n : Counts) → AtMost n (counts_of all) → first_of all n ≡ first_of more n
+  same_first : (all more : Histories) → Grows all more → (n : Counts) → AtMost n (counts_of all) → first_of all n ≡ first_of more n
   same_first = kept_first site stops
 
-  whole : (all : Lists) → first_of all (counts_of all) ≡ all
+  whole : (all : Histories) → first_of all (counts_of all) ≡ all
   whole = at_exit site stops
 
   -- each mark is within the lists
-  within : (all : Lists) (before : Counts) (calls : List Call) (marks : List Mark) → AreTurns site stops all before calls marks → AtMost before (counts_of all)
+  within : (all : Histories) (before : Counts) (calls : List Call) (marks : List Mark) → AreTurns site stops all before calls marks → AtMost before (counts_of all)
   within all before [] [] h = h
   within all before (c ∷ calls) (m ∷ marks) h =
       let rest = within all (counts m) calls marks h.1 in
@@ -30,7 +31,7 @@ module _ (site : Site) (stops : Stops) where
   within all before [] (m ∷ marks) h = absurd h
 
   -- the same exchange over longer lists
-  one_exchange : (all more : Lists) (before : Counts) (c : Call) (m : Mark) → IsExchange site stops all before c m → AllBegin all more → AtMost (counts m) (counts_of all) → IsExchange site stops more before c m
+  one_exchange : (all more : Histories) (before : Counts) (c : Call) (m : Mark) → IsExchange site stops all before c m → Grows all more → AtMost (counts m) (counts_of all) → IsExchange site stops more before c m
   one_exchange all more before c m h b l =
       let was : AtMost before (counts_of all) = record { events = omega (arith, h.later.events, l.events); receipts = omega (arith, h.later.receipts, l.receipts); accounts = omega (arith, h.later.accounts, l.accounts) } in
       let old : first_of all before ≡ first_of more before = same_first all more b before was in
@@ -42,7 +43,7 @@ module _ (site : Site) (stops : Stops) where
       }
 
   -- an exchange where those before it ended
-  made : (old new : Lists) (before : Counts) (c : Call) (now : ℕ) (m : Mark) → before ≡ counts_of old → Marks site stops (call_asked site.users c) now old new m → IsExchange site stops new before c m
+  made : (old new : Histories) (before : Counts) (c : Call) (now : ℕ) (m : Mark) → before ≡ counts_of old → Marks site stops (call_asked site.users c) now old new m → IsExchange site stops new before c m
   made old new before c now m is h =
       let exit : new ≡ first_of new (counts m) = sym (ap (first_of new) h.seen ∙ whole new) in
       let entry : old ≡ first_of new before = sym (ap (first_of new) is ∙ (sym (same_first old new h.begins (counts_of old) (longer site stops old old (all_self old))) ∙ whole old)) in
@@ -58,7 +59,7 @@ module _ (site : Site) (stops : Stops) where
         keeps = subst (λ lists. KeepsCall site stops asks m before (first_of new before) lists) exit (subst (λ lists. KeepsCall site stops asks m before lists new) entry own);
       }
 
-  pub turns-more : (old new : Lists) (before : Counts) (calls : List Call) (marks : List Mark) (c : Call) (now : ℕ) (m : Mark) → AreTurns site stops old before calls marks → last_counts before marks ≡ counts_of old
+  pub turns-more : (old new : Histories) (before : Counts) (calls : List Call) (marks : List Mark) (c : Call) (now : ℕ) (m : Mark) → AreTurns site stops old before calls marks → last_counts before marks ≡ counts_of old
       → Marks site stops (call_asked site.users c) now old new m → AreTurns site stops new before (calls ++ c ∷ []) (marks ++ m ∷ [])
   turns-more old new before [] [] c now m h last is =
       (made old new before c now m last is, subst (λ n. AtMost n (counts_of new)) (sym is.seen) (longer site stops new new (all_self new)))
@@ -68,7 +69,7 @@ module _ (site : Site) (stops : Stops) where
   turns-more old new before [] (n ∷ marks) c now m h last is = absurd h
 
   -- the bytes of the answers over longer lists
-  bytes-longer : (all more : Lists) (before : Counts) (n : ℕ) (calls : List Call) (marks : List Mark) → AreTurns site stops all before calls marks → AllBegin all more
+  bytes-longer : (all more : Histories) (before : Counts) (n : ℕ) (calls : List Call) (marks : List Mark) → AreTurns site stops all before calls marks → Grows all more
       → exchanges_bytes site all n calls marks ≡ exchanges_bytes site more n calls marks
   bytes-longer all more before n [] marks h b = refl
   bytes-longer all more before n (c ∷ calls) [] h b = refl
@@ -78,7 +79,7 @@ module _ (site : Site) (stops : Stops) where
       ∙ ap (λ l. answer_bytes site (first_of more (counts m)) n c m ++ l) (bytes-longer all more (counts m) (n + 1) calls marks h.1 b)
 
   -- with those of one more
-  bytes-added : (all : Lists) (before : Counts) (n : ℕ) (calls : List Call) (marks : List Mark) (c : Call) (m : Mark) (old : Lists) → AreTurns site stops old before calls marks
+  bytes-added : (all : Histories) (before : Counts) (n : ℕ) (calls : List Call) (marks : List Mark) (c : Call) (m : Mark) (old : Histories) → AreTurns site stops old before calls marks
       → exchanges_bytes site all n (calls ++ c ∷ []) (marks ++ m ∷ []) ≡ exchanges_bytes site all n calls marks ++ answer_bytes site (first_of all (counts m)) (n + length calls) c m
   bytes-added all before n [] [] c m old h =
       append-nil (answer_bytes site (first_of all (counts m)) n c m) ∙ ap (λ k. answer_bytes site (first_of all (counts m)) k c m) (sym (add-zero n))
@@ -92,7 +93,7 @@ module _ (site : Site) (stops : Stops) where
   bytes-added all before n (d ∷ calls) [] c m old h = absurd h
   bytes-added all before n [] (e ∷ marks) c m old h = absurd h
 
-  pub bytes-more : (old new : Lists) (before : Counts) (calls : List Call) (marks : List Mark) (c : Call) (now : ℕ) (m : Mark) → AreTurns site stops old before calls marks
+  pub bytes-more : (old new : Histories) (before : Counts) (calls : List Call) (marks : List Mark) (c : Call) (now : ℕ) (m : Mark) → AreTurns site stops old before calls marks
       → Marks site stops (call_asked site.users c) now old new m
       → exchanges_bytes site new 0 (calls ++ c ∷ []) (marks ++ m ∷ []) ≡ exchanges_bytes site old 0 calls marks ++ answer_bytes site new (length calls) c m
   bytes-more old new before calls marks c now m h is =

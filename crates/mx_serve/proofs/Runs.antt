@@ -2,26 +2,26 @@
 use Rattle.std.proofs.Common.{◌≡◌, ℕ, List, [], Option, subst}
 use Rattle.mx_http.specs.declared.call.Call.{Call}
 use Rattle.mx_ids.specs.declared.users.Users.{Users}
-use Rattle.mx_engine.specs.Answers.{Lists, Stops, counts_of, nothing}
+use Rattle.mx_fold.specs.Lists.{AreLawful, Histories}
+use Rattle.mx_engine.specs.Answers.{Stops, counts_of, nothing}
 use Rattle.mx_engine.specs.Asked.{Site}
-use Rattle.mx_engine.proofs.Agreement.{chains_agree}
 use Rattle.mx_serve.specs.Rooms.{AreValid}
 use Rattle.mx_serve.specs.Runs.{Change, Served, run_stops, site_for, status_of}
 use Rattle.mx_serve.specs.Sessions.{InputFaults, IsServed, OutputFaults, moment}
 use Rattle.mx_serve.specs.declared.ended.Ended.{Ended}
 use Rattle.mx_serve.specs.declared.session.Status.{Status}
-use Rattle.mx_serve.proofs.Chaining.{chains_of}
+use Rattle.mx_serve.proofs.Chaining.{connections_agree}
 
-module _ (users : Users) (left written : Change (Option (List ℕ))) (reads writes reading : Change ℕ) (ended : Ended) (seen : Lists) where
+module _ (users : Users) (left written : Change (Option (List ℕ))) (reads writes reading : Change ℕ) (ended : Ended) (seen : Histories) where
   -- a connection from these lists
-  abbrev From : Site → Stops → Lists → Type 0
+  abbrev From : Site → Stops → Histories → Type 0
   From site stops start = (calls : List Call) × IsServed site stops (moment [] left.before written.before start reading.before) (moment [] left.after written.after seen reading.after) calls ended.marks ended.end
 
   -- a connection on a new engine for the users
-  pub serves : (site : Site) (stops : Stops) (start : Lists) (s : Status) → site ≡ site_for users → stops ≡ run_stops → start ≡ nothing → From site stops start
-      → AreValid seen ended.marks → InputFaults ended.end reads.before reads.after → OutputFaults ended.end writes.before writes.after → s ≡ status_of ended.end
+  pub serves : (site : Site) (stops : Stops) (start : Histories) (s : Status) → site ≡ site_for users → stops ≡ run_stops → start ≡ nothing → From site stops start
+      → AreValid seen ended.marks → AreLawful seen → InputFaults ended.end reads.before reads.after → OutputFaults ended.end writes.before writes.after → s ≡ status_of ended.end
       → Served users left written reads writes reading s ended seen
-  serves site stops start s site_is stops_is empty from valid input output is =
+  serves site stops start s site_is stops_is empty from valid lawful input output is =
       let h : From (site_for users) run_stops nothing =
       subst (λ l. From (site_for users) run_stops l) empty (subst (λ t. From (site_for users) t start) stops_is (subst (λ u. From u stops start) site_is from)) in
       record {
@@ -31,5 +31,5 @@ module _ (users : Users) (left written : Change (Option (List ℕ))) (reads writ
         write_faults = output;
         status_is = is;
         valid = valid;
-        chains = chains_of chains_agree (site_for users) run_stops seen (counts_of nothing) h.0 ended.marks h.1.turns;
+        headline = connections_agree (site_for users) run_stops seen (counts_of nothing) h.0 ended.marks h.1.turns lawful;
       }

@@ -5,7 +5,8 @@ use Rattle.std.proofs.KnownBytes.{Consumes-nil, Appends-nil, Keeps-refl, Consume
 use Rattle.mx_core.proofs.Histories.{begins_trans}
 use Rattle.mx_http.specs.declared.call.Call.{Call}
 use Rattle.mx_http.specs.Calls.{AreCalls, IsCall}
-use Rattle.mx_engine.specs.Answers.{AllBegin, Lists, Stops, counts_of}
+use Rattle.mx_fold.specs.Lists.{Grows, Histories}
+use Rattle.mx_engine.specs.Answers.{Stops, counts_of}
 use Rattle.mx_engine.specs.Asked.{Site}
 use Rattle.mx_engine.specs.declared.answered.Mark.{Mark}
 use Rattle.mx_engine.proofs.Done.{all_self}
@@ -67,7 +68,7 @@ some-more a b c front bytes p q =
         let k : length (x ∷ front) + n ≡ suc (length front + n) = omega arith in
         ap (λ k. take k (x ∷ (front ++ bytes))) k ∙ ap (λ l. x ∷ l) (take-behind front bytes n)
 
-all_trans : (a b c : Lists) → AllBegin a b → AllBegin b c → AllBegin a c
+all_trans : (a b c : Histories) → Grows a b → Grows b c → Grows a c
 all_trans a b c p q = record {
   events = begins_trans a.events b.events c.events p.events q.events;
   receipts = begins_trans a.receipts b.receipts c.receipts p.receipts q.receipts;
@@ -108,7 +109,7 @@ module _ (site : Site) (stops : Stops) where
     none_earlier : asks_end (all_but_last calls) ≡ false
     turns : AreTurns site stops now.lists (counts_of old.lists) calls marks
     last : last_counts (counts_of old.lists) marks ≡ counts_of now.lists
-    begins : AllBegin old.lists now.lists
+    begins : Grows old.lists now.lists
     reading_is : now.reading ≡ last_reading old.reading marks
     bytes_are : exchanges_bytes site now.lists 0 calls marks ≡ before ++ answer
 
@@ -209,7 +210,7 @@ module _ (site : Site) (stops : Stops) where
     taken : Consumes first.left new.left (front ++ new.held)
     turns : AreTurns site stops new.lists (counts_of first.lists) calls marks
     last : last_counts (counts_of first.lists) marks ≡ counts_of new.lists
-    begins : AllBegin first.lists new.lists
+    begins : Grows first.lists new.lists
     reading_is : new.reading ≡ last_reading first.reading marks
     none_earlier : asks_end (all_but_last calls) ≡ false
 
@@ -218,7 +219,7 @@ module _ (site : Site) (stops : Stops) where
     taken = taken-all first.left new.left new.held h.front (Consumes-kept first.left (ahead old) (ahead new) h.front h.taken w.ahead_is);
     turns = subst (λ lists. AreTurns site stops lists (counts_of first.lists) h.calls marks) (sym w.lists) h.turns;
     last = h.last ∙ ap counts_of (sym w.lists);
-    begins = subst (λ lists. AllBegin first.lists lists) (sym w.lists) h.begins;
+    begins = subst (λ lists. Grows first.lists lists) (sym w.lists) h.begins;
     reading_is = w.reading ∙ h.reading_is;
     none_earlier = none_in h.calls (length h.calls - 1) h.none_ends;
   }

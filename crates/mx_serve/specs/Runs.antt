@@ -6,9 +6,10 @@ use Rattle.mx_outside.specs.Causes.{Rose}
 use Rattle.mx_ids.specs.declared.users.Users.{Users}
 use Rattle.mx_http.specs.declared.call.Call.{Call}
 use Rattle.mx_users.specs.UsersFile.{users_in}
-use Rattle.mx_engine.specs.Answers.{Lists, Stops, nothing}
+use Rattle.mx_fold.specs.Lists.{Histories}
+use Rattle.mx_engine.specs.Answers.{Stops, nothing}
 use Rattle.mx_engine.specs.Asked.{Site}
-use Rattle.mx_engine.specs.Shown.{lists_of}
+use Rattle.mx_engine.specs.Shown.{stores_of}
 use Rattle.mx_engine.specs.declared.held.EnginePass.{EnginePass}
 use Rattle.mx_serve.specs.declared.ended.End.{End}
 use Rattle.mx_serve.specs.declared.ended.End.TheVariants as end
@@ -16,7 +17,7 @@ use Rattle.mx_serve.specs.declared.ended.Ended.{Ended}
 use Rattle.mx_serve.specs.declared.session.Status.{Status}
 use Rattle.mx_serve.specs.declared.session.Status.TheVariants as status
 use Rattle.mx_serve.specs.Words.{AreWords}
-use Rattle.mx_serve.specs.Chains.{ChainAgrees}
+use Rattle.mx_serve.specs.Chains.{Headline}
 use Rattle.mx_serve.specs.Rooms.{AreValid}
 use Rattle.mx_serve.specs.Sessions.{AppendsPart, InputFaults, IsServed, OutputFaults, moment}
 
@@ -83,15 +84,14 @@ abbrev pub run_stops : Stops
 run_stops = record { events = 281474976694272; receipts = 281474976694272; accounts = 281474976694272 }
 
 -- one connection was served for these users, on an engine without a store; `seen` is what its pass has seen in the end
-pub record Served (users : Users) (left written : Change (Option (List ℕ))) (reads writes reading : Change ℕ) (s : Status) (ended : Ended) (seen : Lists) : Type 0 where
+pub record Served (users : Users) (left written : Change (Option (List ℕ))) (reads writes reading : Change ℕ) (s : Status) (ended : Ended) (seen : Histories) : Type 0 where
   pub calls : List Call
   pub served : IsServed (site_for users) run_stops (moment [] left.before written.before nothing reading.before) (moment [] left.after written.after seen reading.after) calls ended.marks ended.end
   pub read_faults : InputFaults ended.end reads.before reads.after
   pub write_faults : OutputFaults ended.end writes.before writes.after
   pub status_is : s ≡ status_of ended.end
   pub valid : AreValid seen ended.marks
-  -- each device's chain agrees
-  pub chains : ChainAgrees (site_for users) seen calls ended.marks
+  pub headline : Headline (site_for users) seen calls ended.marks
 
 -- nothing was taken and nothing was written, and the clock wasn't read
 pub record Untouched (left written : Change (Option (List ℕ))) (reading : Change ℕ) : Type 0 where
@@ -102,12 +102,12 @@ pub record Untouched (left written : Change (Option (List ℕ))) (reading : Chan
 -- a connection was served for these users, or there was no memory for its engine
 abbrev pub ServesUsers : Users → Change (Option (List ℕ)) → Change (Option (List ℕ)) → Change ℕ → Change ℕ → Change ℕ → Status → Option (Ended × EnginePass) → Type 0
 ServesUsers users left written reads writes reading s None = (s ≡ status.Memory) × Untouched left written reading
-ServesUsers users left written reads writes reading s (Some c) = Served users left written reads writes reading s c.0 (lists_of c.1)
+ServesUsers users left written reads writes reading s (Some c) = Served users left written reads writes reading s c.0 (stores_of c.1)
 
 -- with the users file of this name: for its users a connection was served, or none was, and why
 abbrev pub RanOver : World → List ℕ → Status → Option (Ended × EnginePass) → Type 0
 RanOver w name s None = Untouched w.left w.written w.reading × IsCause (w.file name) w.file_faults s
-RanOver w name s (Some c) = (users : Users) × HasUsers (w.file name) users × Served users w.left w.written w.read_faults w.write_faults w.reading s c.0 (lists_of c.1)
+RanOver w name s (Some c) = (users : Users) × HasUsers (w.file name) users × Served users w.left w.written w.read_faults w.write_faults w.reading s c.0 (stores_of c.1)
 
 -- the words name a users file, or they aren't of the form
 abbrev pub IsRan : List (String Global) → World → Status → Option (Ended × EnginePass) → Type 0

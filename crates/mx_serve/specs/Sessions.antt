@@ -5,7 +5,8 @@ use Rattle.std.specs.Io.KnownBytes.{prepend_known, Consumes, Appends, IsAtEnd}
 use Rattle.mx_outside.specs.Causes.{Rose}
 use Rattle.mx_http.specs.declared.call.Call.{Call}
 use Rattle.mx_http.specs.Calls.{AreCalls, IsBlank, IsUnfinished, IsFaulty}
-use Rattle.mx_engine.specs.Answers.{AllBegin, Lists, Stops, counts_of}
+use Rattle.mx_fold.specs.Lists.{Grows, Histories}
+use Rattle.mx_engine.specs.Answers.{Stops, counts_of}
 use Rattle.mx_engine.specs.Asked.{Site}
 use Rattle.mx_engine.specs.declared.answered.Mark.{Mark}
 use Rattle.mx_serve.specs.declared.ended.End.{End}
@@ -62,10 +63,10 @@ pub record Moment : Type 0 where
   pub held : List ℕ
   pub left : Option (List ℕ)
   pub written : Option (List ℕ)
-  pub lists : Lists
+  pub lists : Histories
   pub reading : ℕ
 
-abbrev pub moment : List ℕ → Option (List ℕ) → Option (List ℕ) → Lists → ℕ → Moment
+abbrev pub moment : List ℕ → Option (List ℕ) → Option (List ℕ) → Histories → ℕ → Moment
 moment held left written lists reading = record { held = held; left = left; written = written; lists = lists; reading = reading }
 
 -- what is ahead of the reader
@@ -81,7 +82,7 @@ pub record IsServed (site : Site) (stops : Stops) (old new : Moment) (calls : Li
   -- each answer is *Answer*'s on the lists at its mark, and these begin those at the next mark, up to what the pass has seen
   pub turns : AreTurns site stops new.lists (counts_of old.lists) calls marks
   pub last : last_counts (counts_of old.lists) marks ≡ counts_of new.lists
-  pub begins : AllBegin old.lists new.lists
+  pub begins : Grows old.lists new.lists
   pub reading_is : new.reading ≡ last_reading old.reading marks
   pub within : length calls ≤ request_limit
   pub none_earlier : asks_end (all_but_last calls) ≡ false

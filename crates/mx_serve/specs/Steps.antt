@@ -3,7 +3,8 @@ use Rattle.std.specs.Prelude.{◌≡◌, ℕ, ◌≤◌, ◌⊎◌, List, Bool, 
 use Rattle.std.specs.Io.KnownBytes.{Consumes, Appends, Keeps, IsAtEnd}
 use Rattle.mx_http.specs.declared.call.Call.{Call}
 use Rattle.mx_http.specs.Calls.{AreCalls, IsCall, IsBlank, IsUnfinished, IsFaulty}
-use Rattle.mx_engine.specs.Answers.{AllBegin, Lists, Stops, counts, counts_of}
+use Rattle.mx_fold.specs.Lists.{Grows, Histories}
+use Rattle.mx_engine.specs.Answers.{Stops, counts, counts_of}
 use Rattle.mx_engine.specs.Asked.{Site}
 use Rattle.mx_engine.specs.declared.answered.Answered.{Answered}
 use Rattle.mx_engine.specs.declared.answered.Mark.{Mark}
@@ -19,25 +20,25 @@ use Rattle.mx_serve.specs.Sessions.{AppendsPart, InputFaults, Moment, OutputFaul
 use Rattle.mx_serve.specs.declared.call_asked.CallAsked.{CallAsked}
 
 -- the mark of an answer to what is asked, on what the pass had seen and has then seen
-pub record Marks (site : Site) (stops : Stops) (asks : CallAsked) (now : ℕ) (old new : Lists) (m : Mark) : Type 0 where
+pub record Marks (site : Site) (stops : Stops) (asks : CallAsked) (now : ℕ) (old new : Histories) (m : Mark) : Type 0 where
   pub now_is : m.now ≡ now
   pub seen : counts m ≡ counts_of new
-  pub begins : AllBegin old new
+  pub begins : Grows old new
   pub keeps : KeepsCall site stops asks m (counts_of old) old new
 
 -- a status and a body with such a mark
-pub record Responds (site : Site) (stops : Stops) (asks : CallAsked) (now : ℕ) (old new : Lists) (m : Mark) (status : ℕ) (text : List ℕ) : Type 0 where
+pub record Responds (site : Site) (stops : Stops) (asks : CallAsked) (now : ℕ) (old new : Histories) (m : Mark) (status : ℕ) (text : List ℕ) : Type 0 where
   pub marks : Marks site stops asks now old new m
   pub is : response status text ≡ response_to site new m asks
 
--- what the engine answers, or that memory was wanting for its body
-abbrev pub Renders : List ℕ → Answered → Mark → ℕ → List ℕ → Type 0
-Renders server a m status text =
-    ((m ≡ a.mark) × (status ≡ said_status a.said) × (text ≡ said_text server a.said))
+-- what the engine answers to a device, or that memory was wanting for its body
+abbrev pub Renders : List ℕ → ℕ → Answered → Mark → ℕ → List ℕ → Type 0
+Renders server device a m status text =
+    ((m ≡ a.mark) × (status ≡ said_status a.said) × (text ≡ said_text server device a.said))
     ⊎ ((m ≡ record a.mark { memory = true }) × (status ≡ 503) × (text ≡ no_memory_text))
 
 -- these are the bytes of the answer to a request after so many others
-pub record Replies (site : Site) (stops : Stops) (earlier : ℕ) (call : Call) (now : ℕ) (old new : Lists) (m : Mark) (answer : List ℕ) : Type 0 where
+pub record Replies (site : Site) (stops : Stops) (earlier : ℕ) (call : Call) (now : ℕ) (old new : Histories) (m : Mark) (answer : List ℕ) : Type 0 where
   pub marks : Marks site stops (call_asked site.users call) now old new m
   pub answer_is : answer ≡ answer_bytes site new earlier call m
 
@@ -72,7 +73,7 @@ Writes call m answer from to (step.Last n other) = ⊥
 Writes call m answer from to (step.Ended e) = ⊥
 
 -- a request was answered
-abbrev pub Answers : Site → Stops → ℕ → Call → ℕ → Lists → Lists → Option (List ℕ) → Option (List ℕ) → Step → Type 0
+abbrev pub Answers : Site → Stops → ℕ → Call → ℕ → Histories → Histories → Option (List ℕ) → Option (List ℕ) → Step → Type 0
 Answers site stops earlier call now old new from to (step.Next m) =
     (answer : List ℕ) × Replies site stops earlier call now old new m answer × Appends from to answer × (call.close ≡ false)
 Answers site stops earlier call now old new from to (step.Last m end.Asked) =
@@ -140,6 +141,6 @@ pub record HasServed (site : Site) (stops : Stops) (old : Moment) (earlier : ℕ
   pub none_ends : asks_end calls ≡ false
   pub turns : AreTurns site stops now.lists (counts_of old.lists) calls marks
   pub last : last_counts (counts_of old.lists) marks ≡ counts_of now.lists
-  pub begins : AllBegin old.lists now.lists
+  pub begins : Grows old.lists now.lists
   pub reading_is : now.reading ≡ last_reading old.reading marks
   pub wrote : Appends old.written now.written (exchanges_bytes site now.lists 0 calls marks)

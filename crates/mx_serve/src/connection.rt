@@ -1,6 +1,7 @@
 //! One connection: its requests are read one after the other, and each is answered before the next is read.
 ghost use Rattle.std.specs.Prelude.{◌≡◌, ◌<◌, List, [], bytes_eq, codes};
-ghost use Rattle.mx_engine.specs.Shown.{Ties, lists_of, site_of, stops_of};
+ghost use Rattle.mx_fold.specs.Lists.{AreLawful};
+ghost use Rattle.mx_engine.specs.Shown.{Ties, stores_of, site_of, stops_of};
 ghost use Rattle.mx_http.specs.Answers.{body_text, response_bytes};
 ghost use Rattle.mx_http.specs.declared.call.Call.{Call};
 ghost use Rattle.mx_serve.specs.Exchanges.{closes_after, request_limit};
@@ -32,7 +33,7 @@ const REQUEST_LIMIT: u64 = 1000;
 /// No byte is asked of the input between a request and its answer. `ReadFault` comes exactly where the input failed, and then
 /// every request that was taken whole was answered; `WriteFault` only where the output's count of faults rose, and `Memory`
 /// only where no request could be read for want of it. Want of memory for one answer is told in its place by a status 503.
-#[tactic(auto, using(crate::proofs::Rooms::marks_valid))]
+#[tactic(auto, using(crate::proofs::Rooms::marks_valid, crate::proofs::Rooms::all_lawful))]
 pub fn serve_connection<G: Gate + Drop, R: Wait, S: Source, K: Sink, C: Clock>(
     rt: &R,
     alloc: Global,
@@ -46,9 +47,10 @@ pub fn serve_connection<G: Gate + Drop, R: Wait, S: Source, K: Sink, C: Clock>(
     requires ties { Ties engine.now pass.old }
     ensures ties { Ties engine.now pass.new }
     ensures served { (calls : List Call) × IsServed (site_of engine.now) (stops_of engine.now)
-        (moment [] (S.left input.old) (K.written output.old) (lists_of pass.old) (C.last clock.old))
-        (moment [] (S.left input.new) (K.written output.new) (lists_of pass.new) (C.last clock.new)) calls result.marks result.end }
-    ensures valid { AreValid (lists_of pass.new) result.marks }
+        (moment [] (S.left input.old) (K.written output.old) (stores_of pass.old) (C.last clock.old))
+        (moment [] (S.left input.new) (K.written output.new) (stores_of pass.new) (C.last clock.new)) calls result.marks result.end }
+    ensures valid { AreValid (stores_of pass.new) result.marks }
+    ensures lawful { AreLawful (stores_of pass.new) }
     ensures reads { InputFaults result.end (S.faults input.old) (S.faults input.new) }
     ensures writes { OutputFaults result.end (K.faults output.old) (K.faults output.new) }
 {
@@ -111,8 +113,8 @@ fn turn<G: Gate + Drop, R: Wait, S: Source, K: Sink, C: Clock>(
     requires within { earlier < request_limit }
     ensures ties { Ties engine.now pass.new }
     ensures turns { Turns (site_of engine.now) (stops_of engine.now) earlier
-        (moment requests.old (S.left input.old) (K.written output.old) (lists_of pass.old) (C.last clock.old))
-        (moment requests.new (S.left input.new) (K.written output.new) (lists_of pass.new) (C.last clock.new)) result }
+        (moment requests.old (S.left input.old) (K.written output.old) (stores_of pass.old) (C.last clock.old))
+        (moment requests.new (S.left input.new) (K.written output.new) (stores_of pass.new) (C.last clock.new)) result }
     ensures reads { StepInput result (S.faults input.old) (S.faults input.new) }
     ensures writes { StepOutput result (K.faults output.old) (K.faults output.new) }
 {
@@ -143,7 +145,7 @@ fn answer<G: Gate + Drop, R: Wait, K: Sink, C: Clock>(
     requires ties { Ties engine.now pass.old }
     requires within { earlier < request_limit }
     ensures ties { Ties engine.now pass.new }
-    ensures answers { Answers (site_of engine.now) (stops_of engine.now) earlier call.now (C.last clock.new) (lists_of pass.old) (lists_of pass.new) (K.written output.old) (K.written output.new) result }
+    ensures answers { Answers (site_of engine.now) (stops_of engine.now) earlier call.now (C.last clock.new) (stores_of pass.old) (stores_of pass.new) (K.written output.old) (K.written output.new) result }
     ensures writes { StepOutput result (K.faults output.old) (K.faults output.new) }
 {
     let now = clock.now();

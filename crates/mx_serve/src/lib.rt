@@ -10,7 +10,7 @@ mod session;
 mod words;
 
 pub use call_asked::Routes;
-pub use chains::chains_agree;
+pub use chains::connections_agree;
 pub use connection::serve_connection;
 pub use ended::{End, Ended};
 pub use session::{Ran, Status, run, tell};

@@ -2,7 +2,7 @@
 ghost use Rattle.std.specs.Prelude.{◌≡◌, IfOk};
 ghost use Rattle.mx_api.specs.Errors.{refused_json, refused_status};
 ghost use Rattle.mx_engine.specs.Answers.{IsAnswered, reading};
-ghost use Rattle.mx_engine.specs.Shown.{Ties, lists_of, site_of, stops_of};
+ghost use Rattle.mx_engine.specs.Shown.{Ties, stores_of, site_of, stops_of};
 ghost use Rattle.mx_http.specs.Answers.{body_text};
 ghost use Rattle.mx_json.specs.Texts.{json_text};
 ghost use Rattle.mx_serve.specs.Asked.{IsCallAsked, call_asked};
@@ -10,7 +10,8 @@ ghost use Rattle.mx_serve.specs.Steps.{Responds, Renders};
 
 use crate::call_asked::{CallAsked, Routes};
 use mx_api::{Refused, refused_json};
-use mx_engine::{Answered, Engine, EnginePass, Mark, Request};
+use mx_ask::Request;
+use mx_engine::{Answered, Engine, EnginePass, Mark};
 use mx_http::{Answer, Body, Call};
 use mx_ids::Memory;
 use mx_render::{no_memory, render};
@@ -38,7 +39,7 @@ pub fn respond<G: Gate + Drop, R: Wait>(
 ) -> Reply
     requires ties { Ties engine.now pass.old }
     ensures ties { Ties engine.now pass.new }
-    ensures responds { Responds (site_of engine.now) (stops_of engine.now) (call_asked engine.now.users call.now) now (lists_of pass.old) (lists_of pass.new) result.mark result.answer.status (body_text result.answer.body) }
+    ensures responds { Responds (site_of engine.now) (stops_of engine.now) (call_asked engine.now.users call.now) now (stores_of pass.old) (stores_of pass.new) result.mark result.answer.status (body_text result.answer.body) }
 {
     match routes.ask(alloc, call, engine.users()) {
         Ok(asked) => respond_to(rt, alloc, engine, pass, asked, now),
@@ -58,7 +59,7 @@ fn respond_to<G: Gate + Drop, R: Wait>(
     requires ties { Ties engine.now pass.old }
     requires ask { IsCallAsked asked }
     ensures ties { Ties engine.now pass.new }
-    ensures responds { Responds (site_of engine.now) (stops_of engine.now) asked now (lists_of pass.old) (lists_of pass.new) result.mark result.answer.status (body_text result.answer.body) }
+    ensures responds { Responds (site_of engine.now) (stops_of engine.now) asked now (stores_of pass.old) (stores_of pass.new) result.mark result.answer.status (body_text result.answer.body) }
 {
     match asked {
         CallAsked::Options => idle(pass, fixed(b"{}"), now, false),
@@ -72,7 +73,7 @@ fn respond_to<G: Gate + Drop, R: Wait>(
         },
         CallAsked::Request(Request { who, ask }) => {
             let answered = engine.answer(rt, alloc, pass, &who, ask, now);
-            rendered(alloc, engine.users(), answered)
+            rendered(alloc, engine.users(), who.device, answered)
         }
     }
 }
@@ -80,7 +81,7 @@ fn respond_to<G: Gate + Drop, R: Wait>(
 /// An answer for which the engine isn't asked, with the mark of one that writes nothing.
 fn idle(pass: &EnginePass, answer: Answer, now: u64, memory: bool) -> Reply
     ensures answer { result.answer ≡ answer }
-    ensures mark { result.mark ≡ record (reading now (lists_of pass.now)) { memory = memory } }
+    ensures mark { result.mark ≡ record (reading now (stores_of pass.now)) { memory = memory } }
 {
     let mark = pass.mark(now);
     Reply {
@@ -89,13 +90,13 @@ fn idle(pass: &EnginePass, answer: Answer, now: u64, memory: bool) -> Reply
     }
 }
 
-/// What the engine answers, as an answer of the protocol. Where there is no room for its body the mark says that memory was
+/// What the engine answers to a device, as an answer of the protocol. Where there is no room for its body the mark says that memory was
 /// wanting.
-fn rendered(alloc: Global, directory: &Directory, answered: Answered) -> Reply
-    ensures { Renders directory.now.server answered result.mark result.answer.status (body_text result.answer.body) }
+fn rendered(alloc: Global, directory: &Directory, device: u32, answered: Answered) -> Reply
+    ensures { Renders directory.now.server device answered result.mark result.answer.status (body_text result.answer.body) }
 {
     let Answered { said, mark } = answered;
-    match render(alloc, directory.users().server.as_str(), said) {
+    match render(alloc, directory.users().server.as_str(), device, said) {
         Ok(answer) => Reply { answer, mark },
         Err(_) => Reply {
             answer: no_memory(),
@@ -114,7 +115,7 @@ fn refusal(alloc: Global, refused: Refused) -> Result<Answer, Memory>
 {
     Ok(Answer {
         status: refused.status(),
-        body: Body::Json(refused_json(alloc, refused)?),
+        body: Body::Json(refused_json(alloc, &refused)?),
     })
 }
 

@@ -170,7 +170,6 @@ fn users_of<F: Files>(alloc: Global, name: &str, files: &mut F) -> Result<Direct
 }
 
 /// Serves one connection for these users.
-#[tactic(auto, using(crate::proofs::Runs::serves))]
 fn serve_users<S: Source, K: Sink, C: Clock, R: Wait>(
     rt: &R,
     alloc: Global,

@@ -1,6 +1,6 @@
 use Rattle.std.proofs.Common.{ℕ, sym, subst}
 use Rattle.mx_http.specs.Answers.{body_text}
-use Rattle.mx_engine.specs.Shown.{lists_of, site_of, stops_of}
+use Rattle.mx_engine.specs.Shown.{stores_of, site_of, stops_of}
 use Rattle.mx_serve.specs.Steps.{Answers}
 use Rattle.mx_serve.proofs.Responding.{written}
 use Rattle.mx_serve.proofs.connection.answer.Goals as goal
@@ -9,8 +9,8 @@ pub returns-clause-answers : goal.returns-clause-answers
 returns-clause-answers g c =
     let site = site_of c.args.engine.now in
     let stops = stops_of c.args.engine.now in
-    let old = lists_of c.args.pass.now in
-    let new = lists_of c.respond-reply.new.pass in
+    let old = stores_of c.args.pass.now in
+    let new = stores_of c.respond-reply.new.pass in
     let from = g.K.Sink.written c.args.output.now in
     let to = g.K.Sink.written c.write_reply.new.output in
     let reply = c.respond-reply.result in
