@@ -1,16 +1,17 @@
 //! What an engine's answers are rendered as.
 use crate::make::{json, text};
-use mx_engine::{Refusal, Reply, Said};
+use mx_ask::{Refusal, Said};
 use mx_http::{Answer, Body};
 use mx_ids::{EventId, RoomId, Seq, SyncToken, user_id};
 use mx_json::Json;
 use mx_render::render;
+use mx_sync::Reply;
 use std::alloc::Global;
 use std::process::Abort;
 
 /// Whether an answer has this status, and this text at a key of its object.
 fn has(rt: &impl Abort, alloc: Global, said: Said, status: u16, key: &str, value: &str) -> bool {
-    let answer = render(alloc, "example.org", said).expect(rt, "memory");
+    let answer = render(alloc, "example.org", 0, said).expect(rt, "memory");
     answer.status == status && is_at(&answer, key, value)
 }
 
@@ -68,7 +69,6 @@ fn reply(rt: &impl Abort, alloc: Global) -> Reply {
         .push((text(rt, alloc, "m.direct"), content))
         .expect(rt, "memory");
     Reply {
-        since: None,
         next: SyncToken {
             e: 0,
             r: 0,
@@ -76,6 +76,9 @@ fn reply(rt: &impl Abort, alloc: Global) -> Reply {
             d: 0,
             b: 0,
         },
+        joined: Seq::new(alloc),
+        invited: Seq::new(alloc),
+        left: Seq::new(alloc),
         account,
     }
 }
@@ -89,7 +92,7 @@ fn first_type(object: &Json) -> Option<&Json> {
 #[test]
 fn a_reply_has_its_token_and_account_data(rt: HostRuntime) {
     let said = Said::Synced(reply(&rt, rt.alloc()));
-    let answer = render(rt.alloc(), "example.org", said).expect(&rt, "memory");
+    let answer = render(rt.alloc(), "example.org", 0, said).expect(&rt, "memory");
     assert!(&rt; answer.status == 200 && is_at(&answer, "next_batch", "s0_0_1_0_0"));
     if let Body::Json(object) = &answer.body {
         let found = first_type(object).expect(&rt, "an event");

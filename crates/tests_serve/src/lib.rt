@@ -2,7 +2,13 @@
 #![tactic(auto)]
 
 #[cfg(test)]
+mod ends;
+#[cfg(test)]
 mod make;
+#[cfg(test)]
+mod refusal_tables;
+#[cfg(test)]
+mod refusals;
 #[cfg(test)]
 mod rooms;
 #[cfg(test)]
@@ -10,4 +16,12 @@ mod runs;
 #[cfg(test)]
 mod sessions;
 #[cfg(test)]
+mod sync_tables;
+#[cfg(test)]
+mod syncs;
+#[cfg(test)]
 mod tables;
+#[cfg(test)]
+mod user_data;
+#[cfg(test)]
+mod user_tables;

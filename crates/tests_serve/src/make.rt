@@ -86,25 +86,31 @@ pub fn expect_by<R: Abort + Wait>(
     written: &str,
     told: &str,
 ) -> Result<(), Memory> {
-    let mut files = files(alloc, case.users)?;
-    let mut input = source(alloc, case)?;
     let mut output = sink(alloc, case.failing_write)?;
     let mut errors = sink(alloc, NEVER)?;
-    let mut clock = StepClock::new(1000, 1);
-    let ran = run(
-        rt,
-        alloc,
-        words,
-        &mut files,
-        &mut input,
-        &mut output,
-        &mut errors,
-        &mut clock,
-    );
-    assert_eq!(rt; ran.status.number(), status);
+    let found = status_of(rt, alloc, words, case, &mut output, &mut errors)?;
+    assert_eq!(rt; found, status);
     assert!(rt; output.written() == written.as_bytes());
     assert!(rt; errors.written() == told.as_bytes());
     Ok(())
+}
+
+/// The status of a run with these words.
+fn status_of<R: Abort + Wait>(
+    rt: &R,
+    alloc: Global,
+    words: &[String],
+    case: &Case,
+    output: &mut MemSink,
+    errors: &mut MemSink,
+) -> Result<u8, Memory> {
+    let mut files = files(alloc, case.users)?;
+    let mut input = source(alloc, case)?;
+    let mut clock = StepClock::new(1000, 1);
+    let ran = run(
+        rt, alloc, words, &mut files, &mut input, output, errors, &mut clock,
+    );
+    Ok(ran.status.number())
 }
 
 const HEADERS: &str =

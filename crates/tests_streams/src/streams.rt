@@ -333,6 +333,29 @@ fn later_parts_share_the_segments_of_earlier_ones(rt: HostRuntime) {
     );
 }
 
+/// Stores the second of three numbers, above what a look saw of the two others: the front moves, and what was seen stays.
+fn expect_still_seen<R: Wait + Abort>(
+    rt: &R,
+    alloc: Global,
+    seen: &Parts<Number>,
+    second: Holder<'_>,
+) {
+    assert_eq!(rt; front_after(rt, alloc, second, 20), 3);
+    assert_eq!(rt; (seen.stores(), seen.front()), (2, 1));
+    assert_eq!(rt; (value_at(seen, 1), value_at(seen, 2)), (Some(10), None));
+}
+
+#[test]
+fn a_look_covers_no_later_store(rt: HostRuntime) {
+    let alloc = rt.alloc();
+    let (stream, pens, mut pass) = stream::<Number>(alloc, 3, 4).expect(&rt, "memory");
+    let (first, second, third) = three_holding(&rt, &stream, pens);
+    assert_eq!(rt; front_after(&rt, alloc, third, 30), 0);
+    assert_eq!(rt; front_after(&rt, alloc, first, 10), 1);
+    let seen = stream.look(&rt, alloc, &mut pass).expect(&rt, "memory");
+    expect_still_seen(&rt, alloc, &seen, second);
+}
+
 /// A pen of a stream without a block.
 #[derive(Drop)]
 struct Writer<'a> {

@@ -1,0 +1,163 @@
+//! What is refused, table by table, and by full streams.
+
+ghost use Rattle.std.specs.Prelude.{◌≤◌};
+ghost use Rattle.mx_engine.specs.Shown.{Ties};
+
+use crate::make::{Case, sink, source, usual_case};
+use crate::refusal_tables;
+use crate::sessions::{holds, read_table};
+use mx_engine::{Engine, EnginePass, Setup, engine};
+use mx_ids::Memory;
+use mx_outside::{MemSink, StepClock};
+use mx_serve::{End, Routes, serve_connection};
+use mx_users::read_users;
+use mx_writers::Open;
+use std::alloc::Global;
+use std::process::Abort;
+use std::sync::Wait;
+use std::test::Fail;
+
+#[test]
+fn the_first_refusal_is_told_before_the_engine_is_asked(rt: HostRuntime) -> Result<(), Fail> {
+    holds(&rt, rt.alloc(), refusal_tables::BEFORE_THE_ENGINE)?;
+    Ok(())
+}
+
+#[test]
+fn the_first_refusal_of_the_engine_is_told(rt: HostRuntime) -> Result<(), Fail> {
+    holds(&rt, rt.alloc(), refusal_tables::BY_THE_ENGINE)?;
+    Ok(())
+}
+
+#[test]
+fn the_first_rule_that_refuses_is_told(rt: HostRuntime) -> Result<(), Fail> {
+    holds(&rt, rt.alloc(), refusal_tables::RULE_BY_RULE)?;
+    Ok(())
+}
+
+#[test]
+fn the_first_refusal_of_a_new_room_is_told(rt: HostRuntime) -> Result<(), Fail> {
+    holds(&rt, rt.alloc(), refusal_tables::NEW_ROOMS)?;
+    Ok(())
+}
+
+#[test]
+fn the_first_refusal_of_a_push_rule_is_told(rt: HostRuntime) -> Result<(), Fail> {
+    holds(&rt, rt.alloc(), refusal_tables::PUSH_RULES)?;
+    Ok(())
+}
+
+/// The table with what its marks stand for.
+fn filled(alloc: Global, table: &str) -> Result<String, Memory> {
+    let letters = "x".repeat(alloc, 65_536)?;
+    let entries = r#"{"content":{},"type":"a"},"#.repeat(alloc, 250)?;
+    let mut filled = String::new(alloc);
+    'marks: for mark in table.chars() {
+        match mark {
+            '~' => filled.push_str(letters.as_str())?,
+            '^' => filled.push_str(entries.as_str())?,
+            _ => filled.push(mark)?,
+        }
+    }
+    Ok(filled)
+}
+
+#[test]
+fn an_event_that_is_too_large_is_told_in_its_place(rt: HostRuntime) -> Result<(), Fail> {
+    let alloc = rt.alloc();
+    let table = filled(alloc, refusal_tables::TOO_LARGE)?;
+    holds(&rt, alloc, table.as_str())?;
+    Ok(())
+}
+
+/// An engine whose streams have this stop, and a pass.
+fn engine_up_to(
+    rt: &impl Abort,
+    alloc: Global,
+    users: &str,
+    stop: u64,
+) -> (Engine<Open>, EnginePass)
+    requires stop { stop ≤ 281474976694272 }
+    ensures ties { Ties result.0 result.1 }
+{
+    let setup = Setup {
+        users: read_users(alloc, users.as_bytes()).expect(rt, "a users file"),
+        workers: 1,
+        stop,
+    };
+    engine(alloc, setup, Open).expect(rt, "memory")
+}
+
+/// The end of a connection that a pass serves.
+fn end_on<R: Abort + Wait>(
+    rt: &R,
+    alloc: Global,
+    engine: &Engine<Open>,
+    pass: &mut EnginePass,
+    routes: &Routes,
+    case: &Case,
+    output: &mut MemSink,
+) -> Result<End, Memory>
+    requires ties { Ties engine.now pass.old }
+{
+    let mut input = source(alloc, case)?;
+    let mut clock = StepClock::new(1000, 1);
+    let ended = serve_connection(
+        rt, alloc, engine, routes, pass, &mut input, output, &mut clock,
+    );
+    Ok(ended.end)
+}
+
+/// The end of a connection to an engine whose streams have this stop.
+fn end_of<R: Abort + Wait>(
+    rt: &R,
+    alloc: Global,
+    routes: &Routes,
+    case: &Case,
+    stop: u64,
+    output: &mut MemSink,
+) -> Result<End, Memory>
+    requires { stop ≤ 281474976694272 }
+{
+    let (engine, mut pass) = engine_up_to(rt, alloc, case.users, stop);
+    end_on(rt, alloc, &engine, &mut pass, routes, case, output)
+}
+
+/// The same, with routes of its own.
+fn end_by<R: Abort + Wait>(
+    rt: &R,
+    alloc: Global,
+    case: &Case,
+    stop: u64,
+    output: &mut MemSink,
+) -> Result<End, Memory>
+    requires { stop ≤ 281474976694272 }
+{
+    let routes = Routes::new(alloc)?;
+    end_of(rt, alloc, &routes, case, stop, output)
+}
+
+/// A connection to an engine whose streams have this stop is asked the calls of a table, and writes its answers.
+fn holds_up_to<R: Abort + Wait>(rt: &R, alloc: Global, table: &str, stop: u64) -> Result<(), Memory>
+    requires { stop ≤ 281474976694272 }
+{
+    let session = read_table(alloc, table)?;
+    let case = usual_case(session.requests.as_str());
+    let mut output = sink(alloc, case.failing_write)?;
+    let end = end_by(rt, alloc, &case, stop, &mut output)?;
+    assert_eq!(rt; end, End::Closed);
+    assert!(rt; output.written() == session.answers.as_bytes());
+    Ok(())
+}
+
+#[test]
+fn streams_without_a_position_are_full(rt: HostRuntime) -> Result<(), Fail> {
+    holds_up_to(&rt, rt.alloc(), refusal_tables::FULL_FROM_THE_START, 0)?;
+    Ok(())
+}
+
+#[test]
+fn streams_are_full_once_their_positions_are_drawn(rt: HostRuntime) -> Result<(), Fail> {
+    holds_up_to(&rt, rt.alloc(), refusal_tables::FULL_AFTER_ONE_BLOCK, 1)?;
+    Ok(())
+}
