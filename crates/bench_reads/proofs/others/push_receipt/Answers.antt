@@ -1,0 +1,8 @@
+use Rattle.std.proofs.Common.{◌∙◌}
+use Rattle.mx_receipt.specs.Receipts.{position_of}
+use Rattle.bench_reads.proofs.Stocks.{one_more}
+use Rattle.bench_reads.proofs.others.push_receipt.Goals as goal
+
+pub returns : goal.returns
+returns c =
+    one_more position_of c.args.made.now.items c.push.new.self.items c.in_ok-receipt.field-0 c.len.result c.requires (c.len.ensures ∙ c.args.made.now.ok.0) c.in_ok-receipt.ensures c.in_ok-push.ensures.items

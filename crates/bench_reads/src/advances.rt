@@ -1,0 +1,59 @@
+//! Going on to later fronts.
+
+ghost use Rattle.std.specs.Prelude.{◌≡◌, ◌≤◌, length, OnOk};
+ghost use Rattle.mx_core.specs.Covered.{covered};
+ghost use Rattle.bench_reads.specs.InPlace.{Knows};
+
+use crate::stock::Stock;
+use mx_ids::Memory;
+use mx_lanes::Parts;
+use mx_outside::Clock;
+use mx_snapshot::Snapshot;
+use std::alloc::Global;
+
+/// By how many events the front rises.
+const STEP: u64 = 10;
+
+/// The milliseconds that it takes to go on so often to a front that is ten later, beginning with the front `items`. All
+/// events are stored beforehand. `Memory` where the allocator refuses what it needs, and where these are over 1,000,000.
+pub fn measure_advances<C: Clock>(
+    alloc: Global,
+    clock: &mut C,
+    items: u64,
+    repeats: u32,
+) -> Result<u64, Memory> {
+    let mut stock = Stock::new(alloc)?;
+    stock.grow(alloc, items.saturating_add(STEP * u64::from(repeats)))?;
+    let mut known = Snapshot::new(alloc);
+    go_on(alloc, &mut stock, &mut known, items)?;
+    let start = clock.now();
+    go_on_all(alloc, &mut stock, &mut known, repeats)?;
+    Ok(clock.now().saturating_sub(start))
+}
+
+/// Goes on so often to a front that is ten later.
+fn go_on_all(
+    alloc: Global,
+    stock: &mut Stock,
+    known: &mut Snapshot,
+    repeats: u32,
+) -> Result<(), Memory>
+    requires { Knows (covered stock.old.book.history) known.old }
+{
+    'repeats: for _repeat in 0..repeats {
+        let front = known.events.front().saturating_add(STEP);
+        go_on(alloc, stock, known, front)?;
+    }
+    Ok(())
+}
+
+/// Takes the events up to a front, and goes on to it. `Memory` also where fewer are stored.
+fn go_on(alloc: Global, stock: &mut Stock, known: &mut Snapshot, front: u64) -> Result<(), Memory>
+    requires knows { Knows (covered stock.old.book.history) known.old }
+    requires later { length known.old.events ≤ front }
+    ensures kept { stock.new.book.history ≡ stock.old.book.history }
+    ensures knows { OnOk result (Knows (covered stock.new.book.history) known.new) }
+{
+    let parts = stock.up_to(alloc, front)?;
+    known.advance(alloc, parts, Parts::none(alloc), Parts::none(alloc))
+}
