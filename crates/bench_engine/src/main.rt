@@ -1,22 +1,23 @@
-//! Measures what a write into a room costs an engine: with the words `EVENTS SENDS` it prints the milliseconds that so
-//! many sends take into a room that has so many events, and with no words nothing. `bench/sends` runs it and prints ratios.
+//! Measures what a room costs an engine: with the words `sends EVENTS COUNT` it prints the milliseconds that so many sends take
+//! into a room that has so many events; with `syncs EVENTS COUNT` those of so many syncs, each of the same ten messages that
+//! were sent after so many events; and with no words nothing. `bench/sends` and `bench/syncs` run it and print ratios.
 #![tactic(auto)]
 
 mod room;
 mod words;
 
 use crate::room::measure;
-use crate::words::{Wanted, read_words};
+use crate::words::read_words;
 use mx_outside::{Clock, HostClock, Sink, StdOut};
 use std::process::ExitCode;
 
 fn main(rt: HostRuntime) -> ExitCode {
-    let Some(Wanted { events, sends }) = read_words(&rt) else {
+    let Some(wanted) = read_words(&rt) else {
         return ExitCode::from(0);
     };
     let mut clock = HostClock::new(rt);
     let mut output = StdOut::new(rt.stdout());
-    let Ok(took) = measure(&rt, rt.alloc(), &mut clock, events, sends) else {
+    let Ok(took) = measure(&rt, rt.alloc(), &mut clock, wanted) else {
         return ExitCode::from(1);
     };
     match format!(in rt.alloc(); "{took}\n") {

@@ -1,12 +1,14 @@
-//! A room that messages are sent to.
+//! A room that messages are sent to, and that is synced.
 
 ghost use Rattle.std.specs.Prelude.{◌≡◌, Some, IfOk, slice_get};
 ghost use Rattle.mx_engine.specs.Shown.{Ties};
 
+use crate::words::{Timed, Wanted};
+use mx_ask::{Ask, FilterAsk, Said, Who};
 use mx_create::wrong_field;
-use mx_engine::{Ask, Engine, EnginePass, Said, Setup, Who, engine};
+use mx_engine::{Engine, EnginePass, Setup, engine};
 use mx_event::Txn;
-use mx_ids::{Copied, Memory, Seq, Text, write_room_id};
+use mx_ids::{Copied, Memory, Seq, SyncToken, Text, write_room_id};
 use mx_json::{Json, Members, read};
 use mx_outside::Clock;
 use mx_users::{Directory, read_users};
@@ -16,13 +18,12 @@ use std::sync::Wait;
 
 const USERS: &str = "server example.org\nalice A1 tok_a1\n";
 
-/// The milliseconds that so many sends take into a room that has some events beforehand.
+/// The milliseconds that what is wanted takes.
 pub fn measure<R: Wait, C: Clock>(
     rt: &R,
     alloc: Global,
     clock: &mut C,
-    events: u32,
-    sends: u32,
+    wanted: Wanted,
 ) -> Result<u64, Memory> {
     let directory = read_users(alloc, USERS.as_bytes()).map_err(|_| Memory)?;
     let who = who(alloc, &directory)?;
@@ -32,11 +33,89 @@ pub fn measure<R: Wait, C: Clock>(
         stop: 281_474_976_694_272,
     };
     let (engine, mut pass) = engine(alloc, setup, Open)?;
-    let room = create(rt, alloc, &engine, &mut pass, &who)?;
-    send_all(rt, alloc, &engine, &mut pass, &who, &room, 0, events)?;
-    let start = clock.now();
-    send_all(rt, alloc, &engine, &mut pass, &who, &room, events, sends)?;
-    Ok(clock.now().saturating_sub(start))
+    measured(rt, alloc, clock, &engine, &mut pass, &who, wanted)
+}
+
+/// The same on an engine without a room.
+fn measured<R: Wait, C: Clock>(
+    rt: &R,
+    alloc: Global,
+    clock: &mut C,
+    engine: &Engine<Open>,
+    pass: &mut EnginePass,
+    who: &Who,
+    wanted: Wanted,
+) -> Result<u64, Memory>
+    requires ties { Ties engine.now pass.old }
+{
+    let room = create(rt, alloc, engine, pass, who)?;
+    send_all(rt, alloc, engine, pass, who, &room, 0, wanted.events)?;
+    match wanted.timed {
+        Timed::Sends => {
+            let start = clock.now();
+            send_all(
+                rt,
+                alloc,
+                engine,
+                pass,
+                who,
+                &room,
+                wanted.events,
+                wanted.count,
+            )?;
+            Ok(clock.now().saturating_sub(start))
+        }
+        Timed::Syncs => {
+            let since = sync(rt, alloc, engine, pass, who, None)?;
+            send_all(rt, alloc, engine, pass, who, &room, wanted.events, 10)?;
+            sync(rt, alloc, engine, pass, who, Some(since))?;
+            let start = clock.now();
+            sync_all(rt, alloc, engine, pass, who, since, wanted.count)?;
+            Ok(clock.now().saturating_sub(start))
+        }
+    }
+}
+
+/// So many syncs since a token.
+fn sync_all<R: Wait>(
+    rt: &R,
+    alloc: Global,
+    engine: &Engine<Open>,
+    pass: &mut EnginePass,
+    who: &Who,
+    since: SyncToken,
+    count: u32,
+) -> Result<(), Memory>
+    requires ties { Ties engine.now pass.old }
+    ensures ties { Ties engine.now pass.new }
+{
+    'syncs: for _ in 0..count {
+        sync(rt, alloc, engine, pass, who, Some(since))?;
+    }
+    Ok(())
+}
+
+/// The token of a sync. `Memory` where it is refused.
+fn sync<R: Wait>(
+    rt: &R,
+    alloc: Global,
+    engine: &Engine<Open>,
+    pass: &mut EnginePass,
+    who: &Who,
+    since: Option<SyncToken>,
+) -> Result<SyncToken, Memory>
+    requires ties { Ties engine.now pass.old }
+    ensures ties { Ties engine.now pass.new }
+{
+    let ask = Ask::Sync {
+        since,
+        filter: FilterAsk::Absent,
+        full_state: false,
+    };
+    match engine.answer(rt, alloc, pass, who, ask, 1000).said {
+        Said::Synced(reply) => Ok(reply.next),
+        _ => Err(Memory),
+    }
 }
 
 fn who(alloc: Global, directory: &Directory) -> Result<Who, Memory> {

@@ -2,19 +2,38 @@
 
 use std::env;
 
+/// What is timed.
+#[derive(Clone, Copy)]
+pub enum Timed {
+    /// Sends of messages.
+    Sends,
+    /// Syncs of the same ten messages.
+    Syncs,
+}
+
 /// What is measured.
 #[derive(Clone, Copy)]
 pub struct Wanted {
+    pub timed: Timed,
     /// How many events the room has beforehand.
     pub events: u32,
-    /// How many sends are timed.
-    pub sends: u32,
+    /// How many sends or syncs are timed.
+    pub count: u32,
 }
 
-/// What the words ask: two numbers.
+/// What the words ask: `sends` or `syncs`, and two numbers.
 pub fn read_words(rt: &HostRuntime) -> Option<Wanted> {
     let mut words = env::args(rt).ok()?.skip(1);
+    let timed = match words.next()?.as_str() {
+        "sends" => Timed::Sends,
+        "syncs" => Timed::Syncs,
+        _ => return None,
+    };
     let events = words.next()?.parse().ok()?;
-    let sends = words.next()?.parse().ok()?;
-    Some(Wanted { events, sends })
+    let count = words.next()?.parse().ok()?;
+    Some(Wanted {
+        timed,
+        events,
+        count,
+    })
 }
