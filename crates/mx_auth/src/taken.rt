@@ -20,31 +20,39 @@ impl Model for Taken {
 }
 
 impl Taken {
+    /// A list that the caller's proof names, of what it is made of.
+    fn made_of<T>(_parts: &T) -> Taken
+        ghost list: { List Event }
+        ensures { result.events ≡ list }
+    {
+        Taken {}
+    }
+
     /// No event.
     pub(crate) fn new() -> Taken
         ensures { result.events ≡ [] }
     {
-        Taken {}
+        Taken::made_of(&())
     }
 
     /// The events before, and then this one.
     pub(crate) fn with(_before: &Taken, _event: &Event) -> Taken
         ensures { result.events ≡ _before.now.events ++ _event.now ∷ [] }
     {
-        Taken {}
+        Taken::made_of(&(_before, _event))
     }
 
     /// The events before, and then this one as it stands at a position in a block that begins at `_first`.
     pub(crate) fn placed(_before: &Taken, _event: &Event, _first: &u64, _at: &u64) -> Taken
         ensures { result.events ≡ _before.now.events ++ placed_event _event.now _first.now _at.now ∷ [] }
     {
-        Taken {}
+        Taken::made_of(&(_before, _event, *_first, *_at))
     }
 
     /// The events after the first.
     pub(crate) fn rest(_events: &Taken) -> Taken
         ensures { result.events ≡ drop 1 _events.now.events }
     {
-        Taken {}
+        Taken::made_of(_events)
     }
 }

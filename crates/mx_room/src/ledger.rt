@@ -19,31 +19,39 @@ impl Model for Ledger {
 }
 
 impl Ledger {
+    /// Rooms that the caller's proof names, of what they are made of.
+    fn made_of<T>(_parts: &T) -> Ledger
+        ghost rooms: { Rooms }
+        ensures { result.rooms ≡ rooms }
+    {
+        Ledger {}
+    }
+
     /// No room of a writer.
     pub(crate) fn empty(_writer: &u8) -> Ledger
         ensures { result.rooms ≡ no_rooms _writer.now }
     {
-        Ledger {}
+        Ledger::made_of(_writer)
     }
 
     /// The same rooms, without a pending block.
     pub(crate) fn without_block(_before: &Ledger) -> Ledger
         ensures { result.rooms ≡ record _before.now.rooms { pending = [] } }
     {
-        Ledger {}
+        Ledger::made_of(_before)
     }
 
     /// The same rooms, with one event more in the pending block.
     pub(crate) fn with(_before: &Ledger, _event: &Event) -> Ledger
         ensures { result.rooms ≡ record _before.now.rooms { pending = _before.now.rooms.pending ++ _event.now ∷ [] } }
     {
-        Ledger {}
+        Ledger::made_of(&(_before, _event))
     }
 
     /// The rooms with the pending block stored from a position on.
     pub(crate) fn stored(_before: &Ledger, _first: &u64) -> Ledger
         ensures { result.rooms ≡ taken_in _before.now.rooms _first.now }
     {
-        Ledger {}
+        Ledger::made_of(&(_before, *_first))
     }
 }
