@@ -51,3 +51,8 @@ pub record SinkState : Type 0 where
 abbrev pub has_failed : Put → Bool
 has_failed put.Done = false
 has_failed put.Failed = true
+
+-- what a listener in memory holds
+pub record ListenerState (P : Type 0) : Type 0 where
+  pub left : List P
+  pub plan : FaultPlan

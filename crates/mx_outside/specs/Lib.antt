@@ -3,3 +3,5 @@ pub mod Moves
 pub mod Calls
 pub mod Named
 pub mod Readings
+pub mod Accepts
+pub mod Starts

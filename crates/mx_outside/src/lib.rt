@@ -1,10 +1,12 @@
 //! The outside of the program, as values that a contract can speak of: a [`Source`] of bytes, a
-//! [`Sink`] of bytes and the [`Files`] that are read by name. Each counts its faults, and answers
-//! that it failed only in a call in which that count rose. A [`Clock`] can't fail.
+//! [`Sink`] of bytes, the [`Files`] that are read by name, a [`Listener`] for connections and a
+//! [`Spawner`] of jobs. Each counts its faults, and answers that it failed only in a call in which that
+//! count rose. A [`Clock`] can't fail.
 //!
-//! Each has a form in memory ([`MemSource`], [`MemSink`], [`MemFiles`], [`StepClock`]), whose calls
-//! fail where the caller lists them, and an adapter to the system ([`StdIn`], [`StdOut`], [`StdErr`],
-//! [`HostFiles`], [`HostClock`]), of which no contract can say what the system gives or takes.
+//! Each has a form in memory ([`MemSource`], [`MemSink`], [`MemFiles`], [`MemListener`], [`StepClock`]), whose
+//! calls fail where the caller lists them, and an adapter to the system ([`StdIn`], [`StdOut`], [`StdErr`],
+//! [`HostFiles`], [`TcpAccept`], [`HostClock`]), of which no contract can say what the system gives or takes. A
+//! spawner of either kind is one type.
 #![tactic(auto)]
 
 mod calls;
@@ -12,24 +14,35 @@ mod clock;
 mod file_set;
 mod host_clock;
 mod host_files;
+mod laws;
+mod listener;
 mod mem_file;
 mod mem_files;
+mod mem_listener;
 mod mem_sink;
 mod mem_source;
+mod running;
 mod sink;
 mod source;
+mod spawner;
 mod step_clock;
 mod streams;
+mod tcp_accept;
 
 pub use clock::Clock;
 pub use file_set::{FileFault, Files};
 pub use host_clock::HostClock;
 pub use host_files::HostFiles;
+pub use laws::{clocks_go_to_threads, ends_go_to_threads};
+pub use listener::{Accepted, Listened, Listener};
 pub use mem_file::MemFile;
 pub use mem_files::MemFiles;
+pub use mem_listener::MemListener;
 pub use mem_sink::MemSink;
 pub use mem_source::MemSource;
 pub use sink::{Put, Sink};
 pub use source::{Source, Took};
+pub use spawner::{Job, Spawner, Started};
 pub use step_clock::StepClock;
 pub use streams::{Reading, StdErr, StdIn, StdOut, Writing};
+pub use tcp_accept::{TcpAccept, TcpIn, TcpOut};
