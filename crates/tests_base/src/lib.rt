@@ -1,5 +1,5 @@
-//! Tests of the lower crates, through their public items: the outside, ids and tokens, users, JSON, HTTP, the machine of a stream
-//! and its lanes.
+//! Tests of the lower crates, through their public items: the outside, waiting, ids and tokens, users, JSON, HTTP, the machine of a
+//! stream and its lanes.
 #![tactic(auto)]
 
 #[cfg(test)]
@@ -11,9 +11,13 @@ mod clocks;
 #[cfg(test)]
 mod ids_and_tokens;
 #[cfg(test)]
+mod jobs;
+#[cfg(test)]
 mod json_values;
 #[cfg(test)]
 mod laws;
+#[cfg(test)]
+mod listeners;
 #[cfg(test)]
 mod machine;
 #[cfg(test)]
@@ -24,3 +28,5 @@ mod requests;
 mod sources_and_sinks;
 #[cfg(test)]
 mod users_file;
+#[cfg(test)]
+mod waits;

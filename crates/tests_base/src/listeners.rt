@@ -1,0 +1,92 @@
+//! Listeners, through their trait.
+use mx_outside::{
+    Accepted, Listened, Listener, MemListener, MemSink, MemSource, Put, Sink, Source, TcpAccept,
+    Took,
+};
+use std::alloc::{AllocError, Global};
+use std::io::{Read, Write};
+use std::net::TcpStream;
+use std::test::Fail;
+
+/// What an accept gave.
+#[derive(Clone, Copy, PartialEq, Eq, Debug)]
+enum Came {
+    /// A connection that sent these bytes first, which were sent back.
+    Sent([u8; 4]),
+    Broken,
+    Closed,
+    Failed,
+}
+
+fn bind<L: Listener>(listener: &mut L, address: &str) -> Listened {
+    listener.listen(address)
+}
+
+/// One connection, whose first bytes are sent back.
+fn answer<L: Listener>(listener: &mut L) -> Came
+where
+    L::In: Drop,
+    L::Out: Drop,
+{
+    match listener.accept() {
+        Accepted::Pair(mut source, mut sink) => echo(&mut source, &mut sink),
+        Accepted::Closed => Came::Closed,
+        Accepted::Failed => Came::Failed,
+    }
+}
+
+fn echo<S: Source, K: Sink>(source: &mut S, sink: &mut K) -> Came {
+    let mut into = [0u8; 4];
+    if let Took::Got(count) = source.take(&mut into)
+        && let Put::Done = sink.put(&into[..count])
+    {
+        return Came::Sent(into);
+    }
+    Came::Broken
+}
+
+fn pair(alloc: Global, bytes: &[u8]) -> Result<(MemSource, MemSink), AllocError> {
+    let source = MemSource::new(Vec::from_slice(alloc, bytes)?, 4, Vec::new(alloc));
+    Ok((source, MemSink::new(alloc, Vec::new(alloc))))
+}
+
+/// A listener with two pairs. Its first and its third call fail.
+fn two_pairs(alloc: Global) -> Result<MemListener<MemSource, MemSink>, AllocError> {
+    let pairs = Vec::from_array(alloc, [pair(alloc, b"ab")?, pair(alloc, b"cde")?])?;
+    Ok(MemListener::new(pairs, Vec::from_slice(alloc, &[0u64, 2])?))
+}
+
+#[test]
+fn a_memory_listener_gives_its_pairs_and_fails_where_listed(rt: HostRuntime) -> Result<(), Fail> {
+    let mut listener = two_pairs(rt.alloc())?;
+    assert_eq!(rt; bind(&mut listener, "anywhere"), Listened::Failed);
+    let wanted = [
+        Came::Sent(*b"ab\0\0"),
+        Came::Failed,
+        Came::Sent(*b"cde\0"),
+        Came::Closed,
+        Came::Closed,
+    ];
+    for want in wanted {
+        assert_eq!(rt; answer(&mut listener), want);
+    }
+    assert_eq!(rt; bind(&mut listener, "elsewhere"), Listened::Done);
+    Ok(())
+}
+
+#[test]
+fn a_tcp_listener_accepts_once_it_is_bound(rt: HostRuntime) -> Result<(), Fail> {
+    let mut listener = TcpAccept::new(rt);
+    assert_eq!(rt; answer(&mut listener), Came::Failed);
+    assert_eq!(rt; bind(&mut listener, "nowhere"), Listened::Failed);
+    assert!(rt; listener.local_addr().is_none());
+    assert_eq!(rt; bind(&mut listener, "127.0.0.1:0"), Listened::Done);
+    let address = listener.local_addr().expect(&rt, "a bound address");
+    let mut client = TcpStream::connect(&rt, address)?;
+    assert_eq!(rt; client.write(b"abc")?, 3);
+    assert_eq!(rt; answer(&mut listener), Came::Sent(*b"abc\0"));
+    let mut back = [0u8; 4];
+    assert_eq!(rt; client.read(&mut back)?, 3);
+    assert_eq!(rt; back, *b"abc\0");
+    Ok(())
+}
