@@ -10,17 +10,17 @@ use crate::front::Stream;
 use crate::handles::{Pass, Pen};
 use crate::plays;
 use mx_core::Placed;
-use mx_ids::{Copied, Memory};
+use mx_ids::Memory;
 use mx_lanes::Parts;
 use std::alloc::Global;
 use std::sync::Wait;
 
-impl<I: Placed + Copied> Stream<I> {
+impl<I: Placed + Drop> Stream<I> {
     /// The items up to the front of some stores, which all that the pass had seen begins, and which have at least as
     /// many items as each value of `next` that the pass has kept, less 4,096: so far is it told which moment they are of.
     /// The pass has then seen just these, all by writers below the number that it knows, and its number of looks rises
     /// by one, also where the answer is `Memory`. Waits for its turn at the stream. `Memory` where the allocator refuses
-    /// the list, or what an item's copy needs.
+    /// the list, or a place for an item.
     pub fn look<R: Wait>(
         &self,
         rt: &R,
@@ -37,9 +37,7 @@ impl<I: Placed + Copied> Stream<I> {
         self.leave(&mut pass.seat, owed);
         parts
     }
-}
 
-impl<I: Placed + Drop> Stream<I> {
     /// A look that answers no items: the pass has then seen more stores, as after `look`, and its number of looks rises
     /// by one. Waits for its turn at the stream, and takes no memory.
     pub fn glance<R: Wait>(&self, rt: &R, pass: &mut Pass<I>)

@@ -12,7 +12,7 @@ use crate::plays;
 use crate::queue::{Owed, claim, come};
 use crate::view::View;
 use mx_core::Placed;
-use mx_ids::{Copied, Memory, Seq};
+use mx_ids::{Memory, Seq};
 use mx_lanes::{Book, Parts};
 use std::alloc::Global;
 use std::sync::Wait;
@@ -125,9 +125,7 @@ impl<I: Placed + Drop> Stream<I> {
             .shared
             .store::<plays::Left>(seat, SERVING, ticket + 1);
     }
-}
 
-impl<I: Placed + Copied> Stream<I> {
     /// The items up to the front, in the turn.
     pub(crate) fn read_parts(&self, alloc: Global, seat: &mut Place<I>) -> Result<Parts<I>, Memory>
         requires table { seat.old.table_id ≡ self.now.table.shared.table_id }

@@ -3,7 +3,7 @@ use Rattle.std.proofs.Common.{◌≡◌, ℕ, ◌+◌, ◌-◌, ◌<◌, ◌≤�
 use Rattle.std.specs.List.{AllByRecursion, slice_get}
 use Rattle.std.specs.Option.{is_some}
 use Rattle.std.specs.Result.{is_ok}
-use Rattle.std.proofs.lemmas.List.{append-nil, append_assoc, take_more, drop_all, length-take}
+use Rattle.std.proofs.lemmas.List.{append-nil, append_assoc, take_more, drop_all, length-take, set-get_or}
 use Rattle.mx_core.specs.declared.history.Stored.{Stored}
 use Rattle.mx_core.specs.Front.{IsFront}
 use Rattle.mx_core.specs.History.{item_at, is_stored, items_of}
@@ -11,7 +11,7 @@ use Rattle.mx_lanes.specs.Book.{IsBook, IsShelved}
 use Rattle.mx_lanes.specs.Order.{by_index, IsReach}
 use Rattle.mx_lanes.specs.Parts.{IsUpTo, part_at}
 use Rattle.mx_lanes.specs.Space.{total, HasSpace}
-use Rattle.mx_lanes.proofs.Orders.{IsPlace, insert_named, valid_more, reach_placed, same_items, reach_front, reach_items, reach_length, slice_get-take, take_found, length-by_index}
+use Rattle.mx_lanes.proofs.Orders.{IsPlace, insert_named, valid_more, reach_placed, same_items, reach_front, reach_items, reach_length, slice_get-take, take_found, named_at, length-by_index}
 
 -- the space of all lanes
 total-set : (xs : List ℕ) (k v : ℕ) → k < length xs → total (set xs k v) + get_or xs k 0 ≡ total xs + v
@@ -96,16 +96,18 @@ pub record IsPut {I : Type 0} (longer : List (Stored I)) (more : List ℕ) (pass
   pub reach : IsReach (by_index longer more) passed front 0
   pub book : (after later : ℕ) → IsReach (by_index longer more) after later 1 → IsBook longer more after later
 
-pub is_place : {I : Type 0} (h seen : List (Stored I)) (order places : List ℕ) (passed place first : ℕ) → AllByRecursion (λ i. i < length h) order → seen ≡ h → places ≡ order
-    → (passed ≤ place) × (place ≤ length places) → AllByRecursion (λ s. first < s.first) (drop place (by_index seen places))
-    → (place ≡ passed) ⊎ ((s : Stored I) × (slice_get (by_index seen places) (place - 1) ≡ Some s) × (s.first ≤ first)) → IsPlace (by_index h order) passed place first
-is_place {I} h seen order places passed place first valid e f bounds above below =
-    let same : by_index seen places ≡ by_index h order = ap (λ (l : List (Stored I)). by_index l places) e ∙ ap (by_index h) f in record {
+pub is_place : {I : Type 0} (h seen : List (Stored I)) (order places : List ℕ) (passed place start first : ℕ) → AllByRecursion (λ i. i < length h) order → seen ≡ h → places ≡ order → start ≡ first
+    → (passed ≤ place) × (place ≤ length places) → AllByRecursion (λ s. start < s.first) (drop place (by_index seen places))
+    → (place ≡ passed) ⊎ ((s : Stored I) × (slice_get (by_index seen places) (place - 1) ≡ Some s) × (s.first ≤ start)) → IsPlace (by_index h order) passed place first
+is_place {I} h seen order places passed place start first valid e f at bounds above below =
+    let same : by_index seen places ≡ by_index h order = ap (λ (l : List (Stored I)). by_index l places) e ∙ ap (by_index h) f in
+    let is : IsPlace (by_index h order) passed place start = record {
       low = bounds.0;
       high = omega (arith, bounds.1, ap length f, length-by_index h order valid);
-      above = subst (λ l. AllByRecursion (λ s. first < s.first) (drop place l)) same above;
-      below = subst (λ (l : List (Stored I)). (place ≡ passed) ⊎ ((s : Stored I) × (slice_get l (place - 1) ≡ Some s) × (s.first ≤ first))) same below;
-    }
+      above = subst (λ l. AllByRecursion (λ s. start < s.first) (drop place l)) same above;
+      below = subst (λ (l : List (Stored I)). (place ≡ passed) ⊎ ((s : Stored I) × (slice_get l (place - 1) ≡ Some s) × (s.first ≤ start))) same below;
+    } in
+    subst (IsPlace (by_index h order) passed place) at is
 
 pub is_put : {I : Type 0} (h longer : List (Stored I)) (order more : List ℕ) (passed front place index : ℕ) (x : Stored I) → IsBook h order passed front → IsPlace (by_index h order) passed place x.first
     → longer ≡ h ++ x ∷ [] → more ≡ take place order ++ index ∷ drop place order → index ≡ length h
@@ -122,16 +124,25 @@ is_put h longer order more passed front place index x b is grown put at free fir
 pub when_ok : {T E A : Type 0} (r : Result T E) (x : T) (v a b : A) → r ≡ Ok x → v ≡ (if is_ok r then a else b) → v ≡ a
 when_ok r x v a b is e = e ∙ ap (λ z. if is_ok z then a else b) is
 
--- one store's items more among the copies
+-- one store's items more on the shelf
 pub items_of-push : {I : Type 0} (ss : List (Stored I)) (s : Stored I) → items_of (ss ++ s ∷ []) ≡ items_of ss ++ s.items
 items_of-push [] s = append-nil s.items
 items_of-push (t ∷ ss) s = ap (λ l. t.items ++ l) (items_of-push ss s) ∙ sym (append_assoc t.items (items_of ss) s.items)
 
-pub shelved_more : {I : Type 0} (ss : List (Stored I)) (k : ℕ) (s : Stored I) (from shelf grown : List I) → slice_get ss k ≡ Some s → from ≡ s.items → shelf ≡ items_of (take k ss)
-    → grown ≡ shelf ++ from → grown ≡ items_of (take (k + 1) ss)
-shelved_more ss k s from shelf grown at is had more =
+pub shelved_more : {I : Type 0} (ss : List (Stored I)) (k : ℕ) (s : Stored I) (shelf grown : List I) → slice_get ss k ≡ Some s → shelf ≡ items_of (take k ss)
+    → grown ≡ shelf ++ s.items → grown ≡ items_of (take (k + 1) ss)
+shelved_more ss k s shelf grown at had more =
     let next : suc k ≡ k + 1 = omega arith in
-    more ∙ ap₂ (λ a b. a ++ b) had is ∙ sym (items_of-push (take k ss) s) ∙ ap items_of (sym (take_found ss k s at) ∙ ap (λ i. take i ss) next)
+    more ∙ ap (λ l. l ++ s.items) had ∙ sym (items_of-push (take k ss) s) ∙ ap items_of (sym (take_found ss k s at) ∙ ap (λ i. take i ss) next)
+
+pub shelved_next : {I : Type 0} (h seen : List (Stored I)) (order : List ℕ) (k i : ℕ) (s : Stored I) (shelf grown : List I) → seen ≡ h → AllByRecursion (λ i. i < length h) order → k < length order
+    → i ≡ get_or order k i → s ≡ get_or seen i s → shelf ≡ items_of (take k (by_index h order)) → grown ≡ shelf ++ s.items → grown ≡ items_of (take (k + 1) (by_index h order))
+shelved_next h seen order k i s shelf grown e valid lt at is had more =
+    shelved_more (by_index h order) k s shelf grown (named_at h order k i s valid lt at (is ∙ ap (λ (l : List (Stored _)). get_or l i s) e)) had more
+
+-- an entry that is written back as it was
+pub written_same : {A : Type 0} (xs : List A) (i : ℕ) (x y : A) → x ≡ get_or xs i x → y ≡ x → set xs i y ≡ xs
+written_same xs i x y is same = ap (set xs i) (same ∙ is) ∙ set-get_or xs i x
 
 take_kept : {A : Type 0} (n place : ℕ) (xs rest : List A) → n ≤ place → place ≤ length xs → take n (take place xs ++ rest) ≡ take n xs
 take_kept zero place xs rest low high = refl
@@ -171,14 +182,14 @@ taken h order passed front last items stores b le is count = record {
     part h order passed front last items stores b le is (suc k) pos high =
         ap (λ l. slice_get l k) is ∙ slice_get-take (items_of (take passed (by_index h order))) last k (omega arith) ∙ reach_items h (by_index h order) passed front b.reach b.same k (omega arith)
 
-pub taken_at : {I : Type 0} (h seen : List (Stored I)) (order places : List ℕ) (passed front last : ℕ) (items : List I) (stores : ℕ) → IsBook h order passed front → last ≤ front → seen ≡ h → places ≡ order
-    → items ≡ take last (items_of (take passed (by_index seen places))) → stores ≡ length h → IsUpTo h last (record { items = items; stores = stores })
-taken_at {I} h seen order places passed front last items stores b le e f is count =
-    taken h order passed front last items stores b le (is ∙ ap (λ (l : List (Stored I)). take last (items_of (take passed (by_index l places)))) e ∙ ap (λ l. take last (items_of (take passed (by_index h l)))) f) count
+pub taken_at : {I : Type 0} (h : List (Stored I)) (order places : List ℕ) (passed front last : ℕ) (items : List I) (stores : ℕ) → IsBook h order passed front → last ≤ front → places ≡ order
+    → items ≡ take last (items_of (take passed (by_index h places))) → stores ≡ length h → IsUpTo h last (record { items = items; stores = stores })
+taken_at h order places passed front last items stores b le f is count =
+    taken h order passed front last items stores b le (is ∙ ap (λ l. take last (items_of (take passed (by_index h l)))) f) count
 
 -- the shelf reaches the front
-pub shelf_reaches : {I : Type 0} (h seen : List (Stored I)) (order places : List ℕ) (passed front last : ℕ) (shelf : List I) → IsBook h order passed front → last ≤ front → seen ≡ h → places ≡ order
-    → shelf ≡ items_of (take passed (by_index seen places)) → last ≤ length shelf
-shelf_reaches {I} h seen order places passed front last shelf b le e f is =
-    let same : shelf ≡ items_of (take passed (by_index h order)) = is ∙ ap (λ l. items_of (take passed l)) (ap₂ (λ (a : List (Stored I)) o. by_index a o) e f) in
+pub shelf_reaches : {I : Type 0} (h : List (Stored I)) (order places : List ℕ) (passed front last : ℕ) (shelf : List I) → IsBook h order passed front → last ≤ front → places ≡ order
+    → shelf ≡ items_of (take passed (by_index h places)) → last ≤ length shelf
+shelf_reaches h order places passed front last shelf b le f is =
+    let same : shelf ≡ items_of (take passed (by_index h order)) = is ∙ ap (λ o. items_of (take passed (by_index h o))) f in
     omega (arith, ap length same, reach_length (by_index h order) passed front 1 b.reach, le)

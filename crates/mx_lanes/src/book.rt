@@ -6,13 +6,13 @@ ghost use Rattle.mx_core.specs.History.{is_stored};
 ghost use Rattle.mx_lanes.specs.Held.{empty, spare_of, Keeps, OthersKeep};
 ghost use Rattle.mx_lanes.specs.Parts.{IsUpTo};
 
+use crate::entry::Entry;
 use crate::order::{Reach, put_store};
 use crate::parts::Parts;
 use crate::shelf::Shelf;
 use crate::shelving::shelve;
 use crate::space::total_spare;
-use mx_core::Stored;
-use mx_ids::{Copied, Memory, Seq};
+use mx_ids::{Memory, Seq};
 use std::alloc::Global;
 use std::marker::Model;
 
@@ -23,11 +23,11 @@ use std::marker::Model;
 /// others wait for at most that block, so a store is moved in this order at most once for each lane.
 #[derive(Drop)]
 pub struct Book<I> {
-    history: Vec<Stored<I>>,
+    history: Vec<Entry<I>>,
     order: Vec<usize>,
     reach: Reach,
     spares: Vec<u16>,
-    /// The items of the first stores of the order, as parts share them.
+    /// The items of the first stores of the order, which history and parts share.
     shelf: Shelf<I>,
     /// How many stores these are.
     shelved: usize,
@@ -104,12 +104,8 @@ impl<I: Drop> Book<I> {
     {
         let holder = usize::from(lane);
         self.spares[holder] = left_of(self.spares[holder], items.len());
-        let store = Stored {
-            writer: lane,
-            first,
-            items,
-        };
-        self.reach = put_store(&mut self.history, &mut self.order, self.reach, store);
+        let entry = Entry::new(lane, first, items);
+        self.reach = put_store(&mut self.history, &mut self.order, self.reach, entry);
     }
 
     /// The front: the greatest position such that each position from 1 to it is stored. Takes no memory.
@@ -126,13 +122,11 @@ impl<I: Drop> Book<I> {
     {
         self.history.len() as u64
     }
-}
 
-impl<I: Copied> Book<I> {
     /// The items at the positions from 1 to `front`, which is at most the book's front: a later store doesn't change
-    /// them. Each item is copied once in the book's life, and all parts share the copy; beyond that it costs a count for
-    /// each full segment of 1,024 items, and one for each item after them. The book stands for the same history
-    /// afterwards. `Memory` where the allocator refuses the lists, or what an item's copy needs.
+    /// them. No item is copied: the book and all parts share it. Each moves once in the book's life, to a place of its own;
+    /// beyond that it costs a count for each full segment of 1,024 items, and one for each item after them. The book
+    /// stands for the same history afterwards. `Memory` where the allocator refuses the lists, or a place for an item.
     pub fn up_to(&mut self, alloc: Global, front: u64) -> Result<Parts<I>, Memory>
         requires { front ≤ self.old.front }
         ensures found { IfOk result (λ parts. IsUpTo self.old.history front parts) }
@@ -140,7 +134,7 @@ impl<I: Copied> Book<I> {
     {
         shelve(
             alloc,
-            self.history.as_slice(),
+            &mut self.history,
             self.order.as_slice(),
             self.reach.passed,
             &mut self.shelf,

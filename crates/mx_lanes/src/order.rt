@@ -8,7 +8,7 @@ ghost use Rattle.mx_core.specs.History.{is_stored};
 ghost use Rattle.mx_lanes.specs.Book.{IsBook};
 ghost use Rattle.mx_lanes.specs.Order.{by_index, IsReach};
 
-use mx_core::Stored;
+use crate::entry::Entry;
 
 /// How far the stores reach from position 1 on without a gap.
 #[derive(Clone, Copy, Debug)]
@@ -20,7 +20,7 @@ pub struct Reach {
 }
 
 /// The store at a place of the order.
-pub fn store_at<'a, I>(history: &'a [Stored<I>], order: &[usize], place: usize) -> &'a Stored<I>
+pub fn store_at<'a, I>(history: &'a [Entry<I>], order: &[usize], place: usize) -> &'a Entry<I>
     requires valid { AllByRecursion (λ i. i < length history.now) order.now }
     requires place { place < length order.now }
     ensures { slice_get (by_index history.now order.now) place ≡ Some result.now }
@@ -30,7 +30,7 @@ pub fn store_at<'a, I>(history: &'a [Stored<I>], order: &[usize], place: usize) 
 
 /// The place of a store that begins at `first`, among those that the front hasn't passed. It looks from the end, so it
 /// costs time in the number of stores above `first`.
-pub fn place_for<I>(history: &[Stored<I>], order: &[usize], passed: usize, first: u64) -> usize
+pub fn place_for<I: Drop>(history: &[Entry<I>], order: &[usize], passed: usize, first: u64) -> usize
     requires valid { AllByRecursion (λ i. i < length history.now) order.now }
     requires passed { passed ≤ length order.now }
     ensures bounds { (passed ≤ result) × (result ≤ length order.now) }
@@ -39,7 +39,7 @@ pub fn place_for<I>(history: &[Stored<I>], order: &[usize], passed: usize, first
 {
     let mut place = order.len();
     'places: while place > passed {
-        if store_at(history, order, place - 1).first <= first {
+        if store_at(history, order, place - 1).first() <= first {
             return place;
         }
         place -= 1;
@@ -48,7 +48,7 @@ pub fn place_for<I>(history: &[Stored<I>], order: &[usize], passed: usize, first
 }
 
 /// Passes each store that begins at the position after the front. Costs one look for each store that it passes.
-pub fn advanced<I>(history: &[Stored<I>], order: &[usize], from: Reach) -> Reach
+pub fn advanced<I: Drop>(history: &[Entry<I>], order: &[usize], from: Reach) -> Reach
     requires valid { AllByRecursion (λ i. i < length history.now) order.now }
     requires reach { IsReach (by_index history.now order.now) from.passed from.front 0 }
     ensures reach { IsReach (by_index history.now order.now) result.passed result.front 1 }
@@ -57,12 +57,12 @@ pub fn advanced<I>(history: &[Stored<I>], order: &[usize], from: Reach) -> Reach
     let mut reach = from;
     'stores: while reach.passed < order.len() {
         let store = store_at(history, order, reach.passed);
-        if store.first != reach.front + 1 {
+        if store.first() != reach.front + 1 {
             return reach;
         }
         reach = Reach {
             passed: reach.passed + 1,
-            front: reach.front + store.items.len() as u64,
+            front: reach.front + store.len(),
         };
     }
     reach
@@ -70,10 +70,10 @@ pub fn advanced<I>(history: &[Stored<I>], order: &[usize], from: Reach) -> Reach
 
 /// Puts a store at the end of the history and at its place in the order, and moves the front. Takes no memory.
 pub fn put_store<I>(
-    history: &mut Vec<Stored<I>>,
+    history: &mut Vec<Entry<I>>,
     order: &mut Vec<usize>,
     reach: Reach,
-    store: Stored<I>,
+    store: Entry<I>,
 ) -> Reach
 where
     I: Drop,
@@ -95,7 +95,7 @@ where
         history.as_slice(),
         order.as_slice(),
         reach.passed,
-        store.first,
+        store.first(),
     );
     order.insert(place, history.len()).unwrap();
     history.push(store).unwrap();

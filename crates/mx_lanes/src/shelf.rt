@@ -41,15 +41,25 @@ impl<I: Drop> Shelf<I> {
         }
     }
 
+    /// Puts items at the end: each costs a count, in amortised constant time. `Memory` leaves some of them there.
+    pub fn put_all(&mut self, alloc: Global, items: &[Shared<I>]) -> Result<(), Memory>
+        ensures { OnOk result (self.new ≡ self.old ++ items.now) }
+    {
+        'items: for item in items {
+            self.put(alloc, item.copy(alloc)?)?;
+        }
+        Ok(())
+    }
+
     /// Puts an item at the end. Takes amortised constant time. `Memory` leaves the items as they were.
-    pub fn put(&mut self, alloc: Global, item: I) -> Result<(), Memory>
+    pub fn put(&mut self, alloc: Global, item: Shared<I>) -> Result<(), Memory>
         ensures ok { OnOk result (self.new ≡ self.old ++ item ∷ []) }
         ensures same { OnErr result (self.new ≡ self.old) }
     {
         if self.tail.len() == SEGMENT {
             seal(alloc, &mut self.full, &mut self.tail)?;
         }
-        self.tail.push(Shared::new(alloc, item)?)
+        self.tail.push(item)
     }
 
     /// The first `front` items, beside a number of stores. Takes time for each full segment, and for each item after

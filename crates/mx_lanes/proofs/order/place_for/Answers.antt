@@ -10,4 +10,4 @@ places-init g c = (c.requires.passed, omega arith, above_none (by_index c.args.h
 pub places-preserved : goal.places-preserved
 places-preserved g c =
     let lt : c.args.passed < c.places.place = c.places-test.true in
-    (omega arith, omega (arith, c.places.invariant.1), above_more (by_index c.args.history.now c.args.order.now) c.places.place c.args.first c.store_at.result.now (omega arith) c.store_at.ensures c.if-store_at-first.false c.places.invariant.2)
+    (omega arith, omega (arith, c.places.invariant.1), above_more (by_index c.args.history.now c.args.order.now) c.places.place c.args.first c.store_at.result.now (omega arith) c.store_at.ensures (omega (arith, c.if-first.false, c.first.ensures)) c.places.invariant.2)

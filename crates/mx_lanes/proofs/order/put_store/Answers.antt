@@ -8,21 +8,21 @@ place_for-place-requires-clause-passed g c = omega (arith, book_within _ _ _ _ c
 pub advanced-requires-clause-valid : goal.advanced-requires-clause-valid
 advanced-requires-clause-valid g c =
     (is_put c.args.history.now.items c.as_slice-3.result.now c.args.order.now.items c.as_slice-4.result.now c.args.reach.passed c.args.reach.front c.place_for-place.result c.len.result c.args.store c.requires.book
-    (is_place _ _ _ _ _ _ _ c.requires.book.valid c.as_slice.ensures.value c.as_slice-2.ensures.value c.place_for-place.ensures.bounds c.place_for-place.ensures.above c.place_for-place.ensures.below)
+    (is_place _ _ _ _ _ _ _ _ c.requires.book.valid c.as_slice.ensures.value c.as_slice-2.ensures.value c.first.ensures c.place_for-place.ensures.bounds c.place_for-place.ensures.above c.place_for-place.ensures.below)
     (c.as_slice-3.ensures.value ∙ when_ok _ _ _ _ _ c.unwrap-2.ensures c.push.ensures.items) (c.as_slice-4.ensures.value ∙ when_ok _ _ _ _ _ c.unwrap.ensures c.insert.ensures.items) (c.len.ensures ∙ c.args.history.now.ok.0)
     c.requires.apart c.requires.first c.requires.items c.requires.last).valid
 
 pub advanced-requires-clause-reach : goal.advanced-requires-clause-reach
 advanced-requires-clause-reach g c =
     (is_put c.args.history.now.items c.as_slice-3.result.now c.args.order.now.items c.as_slice-4.result.now c.args.reach.passed c.args.reach.front c.place_for-place.result c.len.result c.args.store c.requires.book
-    (is_place _ _ _ _ _ _ _ c.requires.book.valid c.as_slice.ensures.value c.as_slice-2.ensures.value c.place_for-place.ensures.bounds c.place_for-place.ensures.above c.place_for-place.ensures.below)
+    (is_place _ _ _ _ _ _ _ _ c.requires.book.valid c.as_slice.ensures.value c.as_slice-2.ensures.value c.first.ensures c.place_for-place.ensures.bounds c.place_for-place.ensures.above c.place_for-place.ensures.below)
     (c.as_slice-3.ensures.value ∙ when_ok _ _ _ _ _ c.unwrap-2.ensures c.push.ensures.items) (c.as_slice-4.ensures.value ∙ when_ok _ _ _ _ _ c.unwrap.ensures c.insert.ensures.items) (c.len.ensures ∙ c.args.history.now.ok.0)
     c.requires.apart c.requires.first c.requires.items c.requires.last).reach
 
 pub returns-clause-book : goal.returns-clause-book
 returns-clause-book g c =
     book_same _ _ _ _ _ _ ((is_put c.args.history.now.items c.as_slice-3.result.now c.args.order.now.items c.as_slice-4.result.now c.args.reach.passed c.args.reach.front c.place_for-place.result c.len.result c.args.store c.requires.book
-    (is_place _ _ _ _ _ _ _ c.requires.book.valid c.as_slice.ensures.value c.as_slice-2.ensures.value c.place_for-place.ensures.bounds c.place_for-place.ensures.above c.place_for-place.ensures.below)
+    (is_place _ _ _ _ _ _ _ _ c.requires.book.valid c.as_slice.ensures.value c.as_slice-2.ensures.value c.first.ensures c.place_for-place.ensures.bounds c.place_for-place.ensures.above c.place_for-place.ensures.below)
     (c.as_slice-3.ensures.value ∙ when_ok _ _ _ _ _ c.unwrap-2.ensures c.push.ensures.items) (c.as_slice-4.ensures.value ∙ when_ok _ _ _ _ _ c.unwrap.ensures c.insert.ensures.items) (c.len.ensures ∙ c.args.history.now.ok.0)
     c.requires.apart c.requires.first c.requires.items c.requires.last).book _ _ c.advanced.ensures.reach)
     (sym c.as_slice-3.ensures.value) (sym c.as_slice-4.ensures.value)
