@@ -12,7 +12,6 @@ use crate::gate::{Gate, Watch};
 use crate::shards::Shard;
 use mx_core::{Prepared, placed_at};
 use mx_front::{Full, Pass, Stream};
-use mx_ids::Copied;
 use std::alloc::Global;
 use std::sync::Wait;
 
@@ -21,8 +20,8 @@ use std::sync::Wait;
 /// is told nothing where the answer isn't a store. Waits for its turns at the stream, and never between draw and store
 /// for another writer's store. `Fault` exactly where the decision is that fault; `Full`
 /// only where the decision is items and the number of positions that were drawn was read at the stream's stop or past
-/// it by this call; `Memory` where the allocator refuses what the decision, the copy that is stored, or the space in the
-/// stream needs. On each refusal the own list is as before.
+/// it by this call; `Memory` where the allocator refuses what the decision or the space in the stream needs. On each
+/// refusal the own list is as before.
 pub fn write_in<F: Folds, G: Gate, R: Wait>(
     rt: &R,
     alloc: Global,
@@ -41,7 +40,7 @@ pub fn write_in<F: Folds, G: Gate, R: Wait>(
 {
     let lane = shard.lane;
     match shard.folds.prepare(alloc, draft) {
-        Ok(Made::Items(prepared)) => store_block(rt, alloc, stream, shard, &prepared, watch),
+        Ok(Made::Items(prepared)) => store_block(rt, stream, shard, prepared, watch),
         Ok(Made::Kept(number)) => Ok(Written {
             first: number,
             count: 0,
@@ -53,29 +52,27 @@ pub fn write_in<F: Folds, G: Gate, R: Wait>(
     }
 }
 
-/// Stores the pending block of a shard.
+/// Stores the pending block of a shard: its value takes the block in, and the items then move into the stream.
 fn store_block<F: Folds, G: Gate, R: Wait>(
     rt: &R,
-    alloc: Global,
     stream: &Stream<F::Item>,
     shard: &mut Shard<F>,
-    prepared: &Prepared<F::Item>,
+    prepared: Prepared<F::Item>,
     watch: &mut Watch<'_, G>,
 ) -> Result<Written, Refused<F::Fault>>
     requires stream { place_of_pen shard.old.pen ≡ place_of stream.now }
     requires watch { watch.old.told ≡ None }
-    requires pending { F.pending shard.old.folds ≡ Some prepared.now.items }
+    requires pending { F.pending shard.old.folds ≡ Some prepared.items }
     requires lane { IsLane F.Item.lawful shard.old.writer (known shard.old.pen).own }
-    requires lawful { CanBeStored F.Item.lawful F.Item.placed shard.old.writer (known shard.old.pen).own prepared.now.items }
+    requires lawful { CanBeStored F.Item.lawful F.Item.placed shard.old.writer (known shard.old.pen).own prepared.items }
     ensures stream { (place_of_pen shard.new.pen ≡ place_of_pen shard.old.pen) × (shard.new.writer ≡ shard.old.writer) }
     ensures seen { Begins (known shard.old.pen).seen (known shard.new.pen).seen }
-    ensures wrote { WritesBy F.Item.placed (Stores prepared.now.items) shard.old.writer
+    ensures wrote { WritesBy F.Item.placed (Stores prepared.items) shard.old.writer
         (stop_of stream.now) (known shard.old.pen).own result (known shard.new.pen) }
     ensures told { (watch.new.gate ≡ watch.old.gate) × (watch.new.told ≡ told_by shard.old.writer result) }
 {
     let lane = shard.lane;
     let count = prepared.items.len() as u16;
-    let items = prepared.items.copy(alloc)?;
     stream.reserve(rt, &mut shard.pen, count)?;
     let drawn = match stream.draw(&mut shard.pen, count) {
         Ok(drawn) => drawn,
@@ -83,8 +80,9 @@ fn store_block<F: Folds, G: Gate, R: Wait>(
     };
     let first = drawn.first;
     watch.drawn(shard.writer, first);
+    shard.folds.commit(first, &prepared);
+    let Prepared { items } = prepared;
     let front = stream.finish(rt, &mut shard.pen, drawn, placed_at(items, first));
-    shard.folds.commit(first, prepared);
     shard.lane += 1;
     Ok(Written {
         first,
