@@ -1,6 +1,8 @@
 -- Items that stand at their positions are found by them, and so are those that pass a test.
-use Rattle.std.proofs.Common.{◌≡◌, ℕ, zero, suc, ◌+◌, ◌<◌, Bool, true, false, cond, ◌&&◌, List, [], ◌∷◌, ◌++◌, length, Option, Some, None, map, filter, option_map, nat_le, nat_lt, nat_eq, slice_get, slice_index_or, take, drop, ◌-◌, refl, sym, ap, ap₂, subst, ◌∙◌, arith}
+use Rattle.std.proofs.Common.{◌≡◌, ℕ, zero, suc, ◌+◌, ◌<◌, ◌≤◌, Bool, true, false, cond, ◌&&◌, List, [], ◌∷◌, ◌++◌, length, Option, Some, None, map, filter, option_map, nat_le, nat_lt, nat_eq, slice_get, slice_index_or, take, drop, ◌-◌, refl, sym, ap, ap₂, subst, ◌∙◌, arith}
 use Rattle.std.proofs.lemmas.Bool.{and_parts, eqb-true, lt-ltb}
+use Rattle.std.proofs.lemmas.List.{length-take-le}
+use Rattle.std.proofs.lemmas.Option.{same_Some}
 use Rattle.std.specs.List.{AllByRecursion}
 use Rattle.std.specs.List.Sorted.{IsNonDecreasingBy}
 use Rattle.std.specs.Option.{option_or, option_to_list}
@@ -88,6 +90,19 @@ module _ {I : Type 0} (at : I → ℕ) where
         joined : (before : List I) → (before ++ e ∷ []) ++ es ≡ before ++ e ∷ es
         joined [] = refl
         joined (d ∷ before) = ap (λ l. d ∷ l) (joined before)
+
+  place_from : (n : ℕ) (es : List I) (k : ℕ) (e : I) → stand_from at n es ≡ true → slice_get es k ≡ Some e → at e ≡ n + k
+  place_from n [] k e placed is = absurd cc
+  place_from n (d ∷ es) zero e placed is = ap at (same_Some e d (sym is)) ∙ eqb-true (at d) n (and_parts (nat_eq (at d) n) (stand_from at (n + 1) es) placed).0 ∙ omega arith
+  place_from n (d ∷ es) (suc k) e placed is = place_from (n + 1) es k e (and_parts (nat_eq (at d) n) (stand_from at (n + 1) es) placed).1 is ∙ omega arith
+
+  -- the item after so many stands at the next position
+  pub next_place : (es : List I) (p n : ℕ) (e : I) → stand_from at 1 es ≡ true → p < length es → n ≡ length (take p es) → at_position es (p + 1) ≡ Some e → at e ≤ n + 1
+  next_place es p n e placed within taken is =
+      let one : suc p ≡ p + 1 = omega arith in
+      let place : at e ≡ 1 + p = place_from 1 es p e placed (ap (at_position es) one ∙ is) in
+      let long : length (take p es) ≡ p = length-take-le p es (omega (arith, within)) in
+      omega (arith, place, taken, long)
 
   pub all_found : (es : List I) → stand_from at 1 es ≡ true → AllByRecursion (Found es) es
   all_found es placed = found_after [] es placed

@@ -1,18 +1,18 @@
 -- The index of one event more.
-use Rattle.std.proofs.Common.{◌≡◌, ℕ, Bool, true, false, cond, List, [], ◌∷◌, ◌++◌, Some, None, Ordering, Less, Equal, Greater, map, fold, option_map, nat_cmp, refl, sym, ap, ◌∙◌}
-use Rattle.std.specs.BTreeMap as tree
+use Rattle.std.proofs.Common.{◌≡◌, ℕ, Bool, true, false, cond, List, [], ◌∷◌, ◌++◌, Ordering, Less, Equal, Greater, map, fold, length, ◌+◌, slice_index_or, refl, sym, ap, ◌∙◌}
+use Rattle.std.proofs.lemmas.List.{length-append}
 use Rattle.std.specs.BTreeMap.{insert_entry}
-use Rattle.std.specs.Option.{option_or}
 use Rattle.std.specs.Ordering.{match_ordering}
 use Rattle.mx_ids.specs.declared.room_id.RoomId.{RoomId}
 use Rattle.mx_event.specs.Lawful.{same_room}
 use Rattle.mx_event.specs.Shown.{position_of}
 use Rattle.mx_event.specs.declared.event.Event.{Event}
-use Rattle.mx_snapshot.specs.Events.{is_version, is_member, is_state, first_redaction, redacts, is_own, with_own, rooms_of, place_of, with_place}
+use Rattle.mx_snapshot.specs.Events.{is_version, is_member, is_state, first_or, redacts, is_own, with_own, rooms_of, place_of, with_place}
 use Rattle.mx_snapshot.specs.Lists.{room_cmp, one, room_at, version_at, own_at}
 use Rattle.mx_snapshot.specs.Indexed.{IsIndexed}
 use Rattle.mx_snapshot.specs.declared.event_index.EventIndex.{EventIndex}
 use Rattle.mx_snapshot.proofs.Found.{positions_more}
+use Rattle.mx_snapshot.proofs.Marks.{first_more}
 
 -- ---- rooms of a user
 
@@ -38,19 +38,6 @@ fold_more : {X A : Type 0} (f : A → X → A) (start : A) (xs : List X) (x : X)
 fold_more f start [] x = refl
 fold_more f start (y ∷ xs) x = fold_more f (f start y) xs x
 
--- ---- redactions
-
-first_more : (es : List Event) (e : Event) (p : ℕ) → option_map position_of (first_redaction (es ++ e ∷ []) p) ≡ option_or (option_map position_of (first_redaction es p)) (cond (redacts p e) (Some e.id.at) None)
-first_more [] e p = by_test (redacts p e) where
-  by_test : (b : Bool) → option_map position_of (cond b (Some e) None) ≡ cond b (Some e.id.at) None
-  by_test true = refl
-  by_test false = refl
-first_more (d ∷ es) e p = by_test (redacts p d) (first_more es e p) where
-  by_test : (b : Bool) → option_map position_of (first_redaction (es ++ e ∷ []) p) ≡ option_or (option_map position_of (first_redaction es p)) (cond (redacts p e) (Some e.id.at) None)
-      → option_map position_of (cond b (Some d) (first_redaction (es ++ e ∷ []) p)) ≡ option_or (option_map position_of (cond b (Some d) (first_redaction es p))) (cond (redacts p e) (Some e.id.at) None)
-  by_test true h = refl
-  by_test false h = h
-
 -- ---- all of them
 
 pub next_indexed : (old new : EventIndex) (es : List Event) (e : Event)
@@ -59,13 +46,15 @@ pub next_indexed : (old new : EventIndex) (es : List Event) (e : Event)
     → ((r : RoomId) → room_at new.states r ≡ room_at old.states r ++ one (is_state r e) e.id.at)
     → ((r : RoomId) (t k : List ℕ) → version_at new.versions r t k ≡ version_at old.versions r t k ++ one (is_version r t k e) e.id.at)
     → ((user : List ℕ) → own_at new.own user ≡ with_place user (own_at old.own user) e)
-    → ((p : ℕ) → tree.get nat_cmp new.firsts p ≡ option_or (tree.get nat_cmp old.firsts p) (cond (redacts p e) (Some e.id.at) None))
+    → ((p : ℕ) → slice_index_or new.firsts.items p 0 ≡ first_or (slice_index_or old.firsts.items p 0) (redacts p e) e.id.at)
+    → length new.firsts.items ≡ length old.firsts.items + 1
     → IsIndexed old es → IsIndexed new (es ++ e ∷ [])
-next_indexed old new es e rooms members states versions own firsts was = record {
+next_indexed old new es e rooms members states versions own firsts marks was = record {
   rooms = λ r. rooms r ∙ ap (λ l. l ++ one (same_room e.room r) e.id.at) (was.rooms r) ∙ sym (positions_more position_of (λ (d : Event). same_room d.room r) es e);
   members = λ r. members r ∙ ap (λ l. l ++ one (is_member r e) e.id.at) (was.members r) ∙ sym (positions_more position_of (is_member r) es e);
   states = λ r. states r ∙ ap (λ l. l ++ one (is_state r e) e.id.at) (was.states r) ∙ sym (positions_more position_of (is_state r) es e);
   versions = λ r t k. versions r t k ∙ ap (λ l. l ++ one (is_version r t k e) e.id.at) (was.versions r t k) ∙ sym (positions_more position_of (is_version r t k) es e);
   own = λ user. own user ∙ ap (λ l. with_place user l e) (was.own user) ∙ sym (places_with user (rooms_of user es) e) ∙ ap (map place_of) (sym (fold_more (with_own user) [] es e));
-  firsts = λ p. firsts p ∙ ap (λ o. option_or o (cond (redacts p e) (Some e.id.at) None)) (was.firsts p) ∙ sym (first_more es e p);
+  firsts = λ p. firsts p ∙ ap (λ n. first_or n (redacts p e) e.id.at) (was.firsts p) ∙ sym (first_more es e p);
+  marks = marks ∙ ap (λ n. n + 1) was.marks ∙ sym (length-append es (e ∷ []));
 }

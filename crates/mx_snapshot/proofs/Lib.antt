@@ -5,6 +5,7 @@ mod Found
 mod Counted
 mod Halving
 mod Lasting
+mod Marks
 mod Grown
 mod Looked
 mod Entries

@@ -1,17 +1,17 @@
 -- Events that the index finds.
-use Rattle.std.proofs.Common.{◌≡◌, ℕ, ◌≤◌, ◌*◌, ◌+◌, Bool, true, false, cond, ◌&&◌, length, List, [], ◌∷◌, ◌++◌, Option, Some, None, map, fold, option_map, nat_le, nat_lt, unwrap_or, Ordering, Less, Equal, Greater, refl, sym, subst, ap, ap₂, ◌∙◌}
+use Rattle.std.proofs.Common.{◌≡◌, ℕ, ◌≤◌, ◌*◌, ◌+◌, Bool, true, false, cond, ◌&&◌, length, List, [], ◌∷◌, ◌++◌, Option, Some, map, fold, option_map, nat_le, nat_lt, Ordering, Less, Equal, Greater, refl, sym, subst, ap, ap₂, ◌∙◌}
 use Rattle.std.specs.List.{AllByRecursion}
 use Rattle.std.specs.BTreeMap.{insert_entry}
 use Rattle.std.specs.Ordering.{match_ordering}
 use Rattle.std.specs.Option.{option_to_list}
 use Rattle.mx_ids.specs.declared.room_id.RoomId.{RoomId}
-use Rattle.mx_window.specs.Lasts.{last_of, keep_if}
+use Rattle.mx_window.specs.Lasts.{last_of}
 use Rattle.mx_window.specs.Windows.{stand_from, between}
 use Rattle.mx_event.specs.Kinds.{has_key}
 use Rattle.mx_event.specs.Lawful.{of_room, same_room}
 use Rattle.mx_event.specs.Shown.{position_of}
 use Rattle.mx_event.specs.declared.event.Event.{Event}
-use Rattle.mx_snapshot.specs.Events.{versions, is_version, first_redaction, redacts, is_own, with_own, rooms_of, place_of}
+use Rattle.mx_snapshot.specs.Events.{versions, is_version, is_own, with_own, rooms_of, place_of}
 use Rattle.mx_snapshot.specs.Lists.{room_cmp}
 use Rattle.mx_snapshot.specs.Looks.{at_position, own_looked, with_room}
 use Rattle.mx_snapshot.proofs.Found.{Found, all_found, in_position, last_among, last_same, length_positions, test_last}
@@ -35,22 +35,6 @@ last_version es room kind key last ps o placed is found =
     ∙ last_same (λ (e : Event). window e && (room_is e && has_key kind key e)) (λ (e : Event). room_is e && (window e && has_key kind key e)) es (swapped room_is window (has_key kind key) es)
     ∙ sym (last_among (λ (e : Event). window e && has_key kind key e) room_is es)
     ∙ sym (last_among (has_key kind key) window (of_room room es))
-
-first_kept_in : (es xs : List Event) (p by last : ℕ) → AllByRecursion (Found position_of es) xs → Some by ≡ option_map position_of (first_redaction xs p) → nat_le by last ≡ true
-    → at_position es by ≡ keep_if (λ (e : Event). nat_le e.id.at last) (first_redaction xs p)
-first_kept_in es [] p by last found is within = absurd cc
-first_kept_in es (x ∷ xs) p by last found is within = by_test (redacts p x) is (λ s. first_kept_in es xs p by last found.1 s within) where
-  kept : (by : ℕ) → by ≡ x.id.at → nat_le by last ≡ true → at_position es by ≡ cond (nat_le x.id.at last) (Some x) None
-  kept by same within = ap (at_position es) same ∙ found.0 ∙ ap (λ b. cond b (Some x) None) (sym within ∙ ap (λ n. nat_le n last) same)
-
-  by_test : (b : Bool) → Some by ≡ option_map position_of (cond b (Some x) (first_redaction xs p))
-      → (Some by ≡ option_map position_of (first_redaction xs p) → at_position es by ≡ keep_if (λ (e : Event). nat_le e.id.at last) (first_redaction xs p)) → at_position es by ≡ keep_if (λ (e : Event). nat_le e.id.at last) (cond b (Some x) (first_redaction xs p))
-  by_test true is rest = kept by (ap (λ (o : Option ℕ). unwrap_or o 0) is) within
-  by_test false is rest = rest is
-
-pub first_kept : (es : List Event) (p by last : ℕ) → stand_from position_of 1 es ≡ true → Some by ≡ option_map position_of (first_redaction es p) → nat_le by last ≡ true
-    → at_position es by ≡ keep_if (λ (e : Event). nat_le e.id.at last) (first_redaction es p)
-first_kept es p by last placed is within = first_kept_in es es p by last (all_found position_of es placed) is within
 
 -- ---- a user's rooms
 

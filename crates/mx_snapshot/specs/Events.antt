@@ -1,5 +1,5 @@
 -- What is looked up among the events of a stream.
-use Rattle.std.specs.Prelude.{◌&&◌, ℕ, Bool, List, [], ◌∷◌, Option, Some, None, filter, fold, nat_lt, if◌then◌else◌}
+use Rattle.std.specs.Prelude.{◌&&◌, ◌==◌, ℕ, Bool, List, [], ◌∷◌, Option, Some, None, filter, fold, nat_lt, if◌then◌else◌}
 use Rattle.std.specs.Option.{is_some}
 use Rattle.std.specs.BTreeMap.{insert_entry}
 use Rattle.mx_ids.specs.declared.event_id.EventId.{EventId}
@@ -40,6 +40,11 @@ abbrev pub first_redaction : List Event → ℕ → Option Event
 first_redaction [] p = None
 first_redaction (e ∷ es) p = if redacts p e then Some e else first_redaction es p
 
+-- the position of an event, or 0 where there is none
+abbrev pub position_or_0 : Option Event → ℕ
+position_or_0 None = 0
+position_or_0 (Some e) = e.id.at
+
 -- the user's member event
 abbrev pub is_own : List ℕ → Event → Bool
 is_own user e = has_key member_type user e
@@ -61,6 +66,10 @@ earlier at (Some id) = if nat_lt id.at at then Some id.at else None
 
 abbrev pub target : Event → Option ℕ
 target e = earlier e.id.at (named_id e)
+
+-- the first number where it isn't 0, else the second if it is wanted
+abbrev pub first_or : ℕ → Bool → ℕ → ℕ
+first_or first wanted by = if first == 0 && wanted then by else first
 
 abbrev pub member_key : Event → Option (List ℕ)
 member_key e = if is_of member_type e then e.state_key else None

@@ -1,10 +1,8 @@
 //! Where to find what among the events of a stream.
 
-ghost use Rattle.std.specs.Prelude.{◌≡◌, ◌==◌, ◌++◌, [], ◌∷◌, List, ℕ, Some, None, OnOk, IsSome, map, if◌then◌else◌};
-ghost use Rattle.std.specs.BTreeMap as tree;
+ghost use Rattle.std.specs.Prelude.{◌≡◌, ◌==◌, ◌≤◌, ◌<◌, ◌+◌, ◌++◌, [], ◌∷◌, List, ℕ, OnOk, IsSome, length, slice_index_or, if◌then◌else◌};
 ghost use Rattle.std.specs.BTreeMap.{get_by_text, insert_entry};
-ghost use Rattle.std.specs.Option.{option_or, option_copied};
-ghost use Rattle.std.specs.Ordering.{nat_cmp};
+ghost use Rattle.std.specs.Option.{option_copied};
 ghost use Rattle.std.specs.Str.{bytes_eq};
 ghost use Rattle.mx_ids.specs.declared.room_id.RoomId.{RoomId};
 ghost use Rattle.mx_event.specs.Lawful.{same_room};
@@ -35,8 +33,8 @@ pub(crate) struct EventIndex {
     pub(crate) versions: BTreeMap<RoomId, Kinds>,
     /// For each user the rooms in which it has a member event, each with the position of the last one.
     pub(crate) own: BTreeMap<String, BTreeMap<RoomId, u64>>,
-    /// For each position the first redaction that names it.
-    pub(crate) firsts: BTreeMap<u64, u64>,
+    /// By position, that of the first redaction that names the event there, or 0.
+    pub(crate) firsts: Vec<u64>,
 }
 
 impl EventIndex {
@@ -50,12 +48,13 @@ impl EventIndex {
             states: BTreeMap::new(alloc),
             versions: BTreeMap::new(alloc),
             own: BTreeMap::new(alloc),
-            firsts: BTreeMap::new(alloc),
+            firsts: Vec::new(alloc),
         }
     }
 
     /// Takes in the event after those that are indexed. The time is that of some look-ups.
     pub(crate) fn take_in(&mut self, alloc: Global, event: &Event) -> Result<(), Memory>
+        requires { event.now.id.at ≤ length self.old.firsts.items + 1 }
         ensures { (es : List Event) → IsIndexed self.old es → OnOk result (IsIndexed self.new (es ++ event.now ∷ [])) }
     {
         add_to_room(alloc, &mut self.rooms, event.room, event.id.at)?;
@@ -180,20 +179,25 @@ fn put_own(
     Ok(())
 }
 
-fn note_first(firsts: &mut BTreeMap<u64, u64>, event: &Event) -> Result<(), Memory>
-    ensures { OnOk result ((p : ℕ) → tree.get nat_cmp firsts.new p ≡ option_or (tree.get nat_cmp firsts.old p) (if looked.redacts p event.now then Some event.now.id.at else None)) }
+fn note_first(firsts: &mut Vec<u64>, event: &Event) -> Result<(), Memory>
+    requires { event.now.id.at ≤ length firsts.old.items + 1 }
+    ensures marks { OnOk result (length firsts.new.items ≡ length firsts.old.items + 1) }
+    ensures first { OnOk result ((p : ℕ) → slice_index_or firsts.new.items p 0 ≡ looked.first_or (slice_index_or firsts.old.items p 0) (looked.redacts p event.now) event.now.id.at) }
 {
-    match target(event) {
-        Some(at) => note_at(firsts, at, event.id.at),
-        None => Ok(()),
-    }
-}
-
-fn note_at(firsts: &mut BTreeMap<u64, u64>, at: u64, by: u64) -> Result<(), Memory>
-    ensures { OnOk result ((p : ℕ) → tree.get nat_cmp firsts.new p ≡ option_or (tree.get nat_cmp firsts.old p) (if at == p then Some by else None)) }
-{
-    if !firsts.contains_key(&at) {
-        firsts.insert(at, by)?;
+    firsts.push(0)?;
+    if let Some(at) = target(event) {
+        note_at(firsts.as_mut_slice(), at as usize, event.id.at);
     }
     Ok(())
+}
+
+/// Notes a redaction where none is noted before it.
+fn note_at(firsts: &mut [u64], at: usize, by: u64)
+    requires { at < length firsts.old }
+    ensures marks { length firsts.new ≡ length firsts.old }
+    ensures first { (p : ℕ) → slice_index_or firsts.new p 0 ≡ looked.first_or (slice_index_or firsts.old p 0) (at == p) by }
+{
+    if firsts[at] == 0 {
+        firsts[at] = by;
+    }
 }

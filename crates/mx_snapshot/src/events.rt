@@ -14,7 +14,7 @@ ghost use Rattle.mx_snapshot.specs.Looks.{all_now, at_position, last_position, o
 
 use crate::event_index::EventIndex;
 use crate::gather::gather;
-use crate::looks::{room_positions, version_positions};
+use crate::looks::{number_at, room_positions, version_positions};
 use crate::positions::{ending, last_one, last_to, within};
 use crate::steps::Steps;
 use mx_event::Event;
@@ -207,11 +207,11 @@ impl Events {
         self.events.at(position)
     }
 
-    /// The first event up to `last` that redacts the event at a position. Takes the time of a look-up, and no memory.
+    /// The first event up to `last` that redacts the event at a position. Takes constant time, and no memory.
     pub fn first_redaction(&self, position: u64, last: u64) -> Option<&Event>
         ensures { option_copied result ≡ keep_if (λ e. nat_le e.id.at last) (first_redaction self.now position) }
     {
-        let by = *self.index.firsts.get(&position)?;
+        let by = number_at(self.index.firsts.as_slice(), position);
         if by <= last { self.events.at(by) } else { None }
     }
 
@@ -233,6 +233,7 @@ fn index_after(
     events: &Parts<Event>,
     from: u64,
 ) -> Result<(), Memory>
+    requires placed { stand_from position_of 1 events.now.items ≡ true }
     requires within { from ≤ length events.now.items }
     requires indexed { IsIndexed index.old (take from events.now.items) }
     ensures { OnOk result (IsIndexed index.new events.now.items) }
@@ -249,6 +250,7 @@ fn take_next(
     events: &Parts<Event>,
     passed: u64,
 ) -> Result<(), Memory>
+    requires placed { stand_from position_of 1 events.now.items ≡ true }
     requires within { passed < length events.now.items }
     requires indexed { IsIndexed index.old (take passed events.now.items) }
     ensures { OnOk result (IsIndexed index.new (take (passed + 1) events.now.items)) }

@@ -1,11 +1,18 @@
-//! What the maps of an index have at a key.
+//! What the parts of an index have at a key.
 
-ghost use Rattle.std.specs.Prelude.{◌≡◌};
+ghost use Rattle.std.specs.Prelude.{◌≡◌, slice_index_or};
 ghost use Rattle.mx_snapshot.specs.Lists.{room_at, key_at, kind_at, version_at};
 
 use crate::lists::{Keys, Kinds};
 use mx_ids::RoomId;
 use std::collections::BTreeMap;
+
+/// The number at an index, or 0 beyond the end.
+pub(crate) fn number_at(numbers: &[u64], index: u64) -> u64
+    ensures { result ≡ slice_index_or numbers.now index 0 }
+{
+    numbers.get(index as usize).copied().unwrap_or(0)
+}
 
 /// The positions of a room.
 pub(crate) fn room_positions<'a>(rooms: &'a BTreeMap<RoomId, Vec<u64>>, room: &RoomId) -> &'a [u64]
