@@ -135,7 +135,7 @@ module _ {I : Type 0} (at : I → ℕ) where
 
   -- ---- the last version up to a position
 
-  last_mapped : (test : ℕ → Bool) (xs : List I) → last_of test (map at xs) ≡ option_map at (last_of (λ e. test (at e)) xs)
+  pub last_mapped : (test : ℕ → Bool) (xs : List I) → last_of test (map at xs) ≡ option_map at (last_of (λ e. test (at e)) xs)
   last_mapped test [] = refl
   last_mapped test (x ∷ xs) = ap (λ o. option_or o (cond (test (at x)) (Some (at x)) None)) (last_mapped test xs) ∙ by_last (last_of (λ e. test (at e)) xs) (test (at x)) where
     by_last : (o : Option I) (b : Bool) → option_or (option_map at o) (cond b (Some (at x)) None) ≡ option_map at (option_or o (cond b (Some x) None))
@@ -143,7 +143,7 @@ module _ {I : Type 0} (at : I → ℕ) where
     by_last None false = refl
     by_last (Some y) b = refl
 
-  last_found : (es : List I) (test : I → Bool) (xs : List I) → AllByRecursion (Found es) xs → in_position es (option_map at (last_of test xs)) ≡ last_of test xs
+  pub last_found : (es : List I) (test : I → Bool) (xs : List I) → AllByRecursion (Found es) xs → in_position es (option_map at (last_of test xs)) ≡ last_of test xs
   last_found es test [] found = refl
   last_found es test (x ∷ xs) found = by_last (last_of test xs) (test x) (last_found es test xs found.1) where
     by_last : (o : Option I) (b : Bool) → in_position es (option_map at o) ≡ o → in_position es (option_map at (option_or o (cond b (Some x) None))) ≡ option_or o (cond b (Some x) None)

@@ -9,5 +9,8 @@ mod Marks
 mod Grown
 mod Looked
 mod Entries
+mod Grouped
+mod Standing
+mod Walked
 mod Firsts
 mod Crosses

@@ -1,4 +1,6 @@
 pub mod Lists
+pub mod LastVersions
+pub mod Standing
 pub mod Looks
 pub mod Events
 pub mod Indexed

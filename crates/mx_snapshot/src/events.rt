@@ -10,10 +10,12 @@ ghost use Rattle.mx_event.specs.Lawful.{of_room, same_room};
 ghost use Rattle.mx_event.specs.Shown.{position_of};
 ghost use Rattle.mx_snapshot.specs.Indexed.{IsIndexed};
 ghost use Rattle.mx_snapshot.specs.Events.{first_redaction, is_member, members, rooms_of, states, versions};
+ghost use Rattle.mx_snapshot.specs.Standing.{standing_in};
 ghost use Rattle.mx_snapshot.specs.Looks.{all_now, at_position, last_position, own_looked, own_now, with_room};
 
 use crate::event_index::EventIndex;
 use crate::gather::gather;
+use crate::last_versions::last_versions;
 use crate::looks::{number_at, room_positions, version_positions};
 use crate::positions::{ending, last_one, last_to, within};
 use crate::steps::Steps;
@@ -161,6 +163,26 @@ impl Events {
     {
         let positions = room_positions(&self.index.states, room);
         gather(alloc, &self.events, within(positions, low, high))
+    }
+
+    /// The state events of a room that are the last of their type and key up to a position, in their order: the room's state
+    /// there. Takes the time of a search for each type and key that the room has a state event of, and of sorting what is
+    /// found; memory for as many positions and references.
+    pub fn standing(
+        &self,
+        alloc: Global,
+        room: &RoomId,
+        position: u64,
+    ) -> Result<Vec<&Event>, Memory>
+        ensures { IfOk result (λ made. all_now made.items ≡ standing_in room.now 0 position self.now) }
+    {
+        match self.index.versions.get(room) {
+            Some(kinds) => {
+                let positions = last_versions(alloc, kinds, position)?;
+                gather(alloc, &self.events, positions.as_slice())
+            }
+            None => Ok(Vec::new(alloc)),
+        }
     }
 
     /// The state events of a room with a type and a key, at the positions after `low` and up to `high`, in their order.

@@ -7,6 +7,7 @@ mod accounts;
 mod event_index;
 mod events;
 mod gather;
+mod last_versions;
 mod laws;
 mod lists;
 mod looks;

@@ -36,8 +36,8 @@ pub fn state_event<'a>(
     events.last_of_counted(room, kind, key, position, steps)
 }
 
-/// The state of a room at a position, in order of position. Takes the time of a search for each state event of the room up
-/// to it, and memory for as many.
+/// The state of a room at a position, in order of position. Takes the time of a search for each type and state key that the
+/// room has a state event of, and of sorting what is found; memory for as many.
 pub fn state_at<'a>(
     alloc: Global,
     events: &'a Events,
@@ -47,12 +47,12 @@ pub fn state_at<'a>(
     ensures { IfOk result (λ made. (f : Sieve) (user : List ℕ) → all_now made.items ≡ state_list (room_of f user (of_room room.now events.now)) (of_room room.now events.now) position) }
 {
     let _front = events.front();
-    let made = standing_after(alloc, events, room, 0, position)?;
+    let made = events.standing(alloc, room, position)?;
     Ok(made)
 }
 
 /// The events of the state at `to` that lie after `from`, in order of position. Takes the time of a search for each state
-/// event of the room between the two positions, and memory for as many.
+/// event of the room between the two positions, and memory for as many: linear in those, and not in the state.
 pub fn difference<'a>(
     alloc: Global,
     events: &'a Events,
