@@ -66,6 +66,7 @@ fn jobs_in_the_caller_run_but_those_that_are_listed(rt: HostRuntime) -> Result<(
     for (want, ran) in rows {
         assert_eq!(rt; add_one(&rt, &mut spawner, &count)?, want);
         assert_eq!(rt; count.load(Ordering::SeqCst), ran);
+        assert_eq!(rt; Arc::strong_count(&count), 1, "each job was dropped");
     }
     spawner.wait_all(&rt);
     Ok(())
@@ -85,5 +86,6 @@ fn two_jobs_in_threads_run_at_once(rt: HostRuntime) -> Result<(), Fail> {
     }
     spawner.wait_all(&rt);
     assert_eq!(rt; meeting.met.load(Ordering::SeqCst), 2);
+    assert_eq!(rt; Arc::strong_count(&meeting), 1, "each job was dropped");
     Ok(())
 }
