@@ -1,6 +1,8 @@
 pub mod Twice
 pub mod Placed
 pub mod Joining
+pub mod SameLevels
+pub mod Saying
 pub mod Taking
 pub mod Entries
 pub mod Furthest

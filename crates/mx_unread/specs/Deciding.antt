@@ -1,11 +1,12 @@
--- What a decider knows of a room after the events that it took.
-use Rattle.std.specs.Prelude.{◌≡◌, ℕ, ◌+◌, ◌-◌, Bool, true, false, ◌&&◌, List, [], ◌∷◌, ◌++◌, Option, Some, None, is_some}
+-- What a decider knows of a room after some of its events.
+use Rattle.std.specs.Prelude.{◌≡◌, ℕ, ◌+◌, ◌-◌, Bool, true, false, ◌&&◌, ◌||◌, List, [], ◌∷◌, ◌++◌, Option, Some, None, is_some, if◌then◌else◌}
 use Rattle.std.specs.Option.{option_copied, option_and_then}
 use Rattle.mx_ids.specs.Ids.{event_id_text, room_id_text}
 use Rattle.mx_ids.specs.User.{server_of}
 use Rattle.mx_ids.specs.declared.room_id.RoomId.{RoomId}
 use Rattle.mx_window.specs.Lasts.{last_of}
-use Rattle.mx_event.specs.Kinds.{has_key, is_of, member_type}
+use Rattle.mx_event.specs.Kinds.{create_type, has_key, is_of, member_type, power_type}
+use Rattle.mx_event.specs.State.{standing}
 use Rattle.mx_event.specs.declared.event.Event.{Event}
 use Rattle.mx_folding.specs.Visible.{is_join}
 use Rattle.mx_view.specs.Readings.{is_own, membership_of}
@@ -39,24 +40,36 @@ joined_change n true false = n - 1
 joined_change n true true = n
 joined_change n false false = n
 
+-- it is a room's creation or its power levels
+abbrev pub sets_levels : Event → Bool
+sets_levels e = has_key create_type [] e || has_key power_type [] e
+
+abbrev pub with_levels : Event → List Event → List Event
+with_levels e es = if sets_levels e then es ++ e ∷ [] else es
+
+-- the same creation and the same power levels stand after both
+pub record SameLevels (es before : List Event) : Type 0 where
+  pub created : standing create_type [] es ≡ standing create_type [] before
+  pub leveled : standing power_type [] es ≡ standing power_type [] before
+
 -- what a decider's rules read beside an event
 abbrev pub setting_in : Decider → Event → Setting
 setting_in d e = record {
   user = d.user.now;
   name = option_and_then name_of (option_copied d.own);
   joined = d.joined;
-  before = d.state.events;
+  before = d.levels.events;
   room = d.room_text;
   event_id = event_id_text (server_of d.user.now) e.id;
 }
 
--- the decider has these rules and has taken these events of the room
-pub record HasTaken (d : Decider) (rules : Rules) (room : RoomId) (user : List ℕ) (before : List Event) : Type 0 where
+-- the decider has these rules, and what they read of the room after these events
+pub record Knows (d : Decider) (rules : Rules) (room : RoomId) (user : List ℕ) (before : List Event) : Type 0 where
   pub rules_are : rules_of d.rules ≡ rules
   pub room_is : d.room.now ≡ room
   pub user_is : d.user.now ≡ user
   pub text_is : d.room_text ≡ room_id_text (server_of user) room
-  pub taken : d.state.events ≡ before
+  pub levels_are : SameLevels d.levels.events before
   pub own_is : option_copied d.own ≡ last_of (is_own user) before
   pub joined_is : d.joined ≡ joined_in before
 
@@ -66,6 +79,6 @@ pub record TakesNext (old new : Decider) (e : Event) (before : List Event) : Typ
   pub room_stays : new.room.now ≡ old.room.now
   pub user_stays : new.user.now ≡ old.user.now
   pub text_stays : new.room_text ≡ old.room_text
-  pub taken : new.state.events ≡ old.state.events ++ e ∷ []
+  pub levels_are : new.levels.events ≡ with_levels e old.levels.events
   pub own_is : option_copied new.own ≡ newer (is_own old.user.now e) e (option_copied old.own)
   pub joined_is : new.joined ≡ joined_change old.joined (was_joined e before) (is_joined_by e)

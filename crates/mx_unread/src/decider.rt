@@ -1,17 +1,18 @@
 //! A user's push rules over the events of a room, one after the other.
 
-ghost use Rattle.std.specs.Prelude.{◌≡◌, ◌<◌, ◌+◌, ◌-◌, ◌^◌, [], IfOk, OnOk, option_map};
+ghost use Rattle.std.specs.Prelude.{◌≡◌, ◌<◌, ◌+◌, ◌-◌, ◌^◌, IfOk, OnOk, option_map};
 ghost use Rattle.std.specs.Option.{option_copied, option_and_then};
 ghost use Rattle.mx_window.specs.Windows.{between};
 ghost use Rattle.mx_event.specs.Lawful.{of_room};
 ghost use Rattle.mx_event.specs.Shown.{position_of};
-ghost use Rattle.mx_lazy.specs.Summaries.{joined_by};
 ghost use Rattle.mx_push.specs.Notifies.{notifies};
 ghost use Rattle.mx_rules.specs.Rules.{rules_of};
 ghost use Rattle.mx_visible.specs.Walks.{newer};
-ghost use Rattle.mx_unread.specs.Deciding.{HasTaken, TakesNext, is_joined_by, joined_change, setting_in, stood_joined, was_joined};
+ghost use Rattle.mx_unread.specs.Deciding.{Knows, TakesNext, setting_in};
 ghost use Rattle.mx_unread.specs.Unread.{name_of};
 
+use crate::joined::{joined_after, joined_at};
+use crate::levels::{levels_at, take_levels};
 use mx_auth::AuthState;
 use mx_event::Event;
 use mx_event::event_types::MEMBER;
@@ -19,10 +20,10 @@ use mx_ids::{Memory, RoomId, Text, UserId, write_event_id, write_room_id};
 use mx_push::{Context, Notify, decide};
 use mx_rules::RuleSet;
 use mx_snapshot::Events;
-use mx_visible::{Membership, is_own, membership_of};
+use mx_visible::is_own;
 use std::alloc::Global;
 
-/// A user's push rules, and what they read of a room after the events that were taken.
+/// A user's push rules, and what they read of a room at a position.
 #[derive(Drop)]
 pub(crate) struct Decider<'a> {
     pub(crate) rules: RuleSet,
@@ -30,8 +31,8 @@ pub(crate) struct Decider<'a> {
     pub(crate) room: &'a RoomId,
     /// The text of the room's id.
     pub(crate) room_text: Text,
-    /// The state of the room.
-    pub(crate) state: AuthState,
+    /// The state of the room, as far as it sets levels.
+    pub(crate) levels: AuthState,
     /// The user's member event that stands in the room.
     pub(crate) own: Option<&'a Event>,
     /// How many members are joined in the room.
@@ -39,14 +40,18 @@ pub(crate) struct Decider<'a> {
 }
 
 impl<'a> Decider<'a> {
-    /// The rules, before the room's first event.
+    /// The rules, in a room at a position. Takes the time of a search for each member event of the room up to it, and memory
+    /// for as many.
     pub(crate) fn new(
         alloc: Global,
         rules: RuleSet,
+        events: &'a Events,
         user: &'a UserId,
         room: &'a RoomId,
+        position: u64,
     ) -> Result<Decider<'a>, Memory>
-        ensures { IfOk result (λ d. HasTaken d (rules_of rules) room.now user.now []) }
+        ensures knows { IfOk result (λ d. Knows d (rules_of rules) room.now user.now (between position_of 0 position (of_room room.now events.now))) }
+        ensures few { IfOk result (λ d. d.joined < 2 ^ 63) }
     {
         let mut room_text = Text::new(alloc);
         write_room_id(alloc, room, user.server(), &mut room_text)?;
@@ -55,9 +60,9 @@ impl<'a> Decider<'a> {
             user,
             room,
             room_text,
-            state: AuthState::empty(alloc),
-            own: None,
-            joined: 0,
+            levels: levels_at(alloc, events, room, position)?,
+            own: events.last_of(room, MEMBER, user.as_str(), position),
+            joined: joined_at(alloc, events, room, position)?,
         })
     }
 
@@ -71,7 +76,7 @@ impl<'a> Decider<'a> {
             user: self.user,
             name: display_name(self.own),
             joined: self.joined,
-            state: &self.state,
+            state: &self.levels,
             room: self.room_text.as_str(),
             event_id: id.as_str(),
         };
@@ -83,9 +88,8 @@ impl<'a> Decider<'a> {
         requires few { self.old.joined + 1 < 2 ^ 64 }
         ensures { OnOk result (TakesNext self.old self.new event.now (between position_of 0 (event.now.id.at - 1) (of_room self.old.room.now events.now))) }
     {
-        let was = was_joined(events, self.room, event);
-        self.state.take(event)?;
-        self.joined = joined_after(self.joined, was, is_joined_by(event));
+        take_levels(&mut self.levels, event)?;
+        self.joined = joined_after(events, self.room, self.joined, event);
         self.own = newer(is_own(event, self.user), event, self.own);
         Ok(())
     }
@@ -102,50 +106,4 @@ fn newer<'a>(test: bool, event: &'a Event, old: Option<&'a Event>) -> Option<&'a
     ensures { option_copied result ≡ newer test event.now (option_copied old.entry) }
 {
     if test { Some(event) } else { old }
-}
-
-fn joined_after(count: u64, was: bool, is: bool) -> u64
-    requires { count + 1 < 2 ^ 64 }
-    ensures { result ≡ joined_change count was is }
-{
-    match (was, is) {
-        (false, true) => count + 1,
-        (true, false) => count.saturating_sub(1),
-        (true, true) | (false, false) => count,
-    }
-}
-
-/// Whether this is a member event by which its user is joined.
-fn is_joined_by(event: &Event) -> bool
-    ensures { result ≡ is_joined_by event.now }
-{
-    event.is_of(MEMBER) && event.state_key.is_some() && is_join(event)
-}
-
-fn is_join(event: &Event) -> bool
-    ensures { result ≡ joined_by event.now }
-{
-    matches!(membership_of(event), Some(Membership::Join))
-}
-
-/// Whether the user whose member event this is was joined before it.
-fn was_joined(events: &Events, room: &RoomId, event: &Event) -> bool
-    ensures { result ≡ was_joined event.now (between position_of 0 (event.now.id.at - 1) (of_room room.now events.now)) }
-{
-    if !event.is_of(MEMBER) {
-        return false;
-    }
-    match &event.state_key {
-        Some(key) => stood_joined(events, room, key.as_str(), event.id.at.saturating_sub(1)),
-        None => false,
-    }
-}
-
-fn stood_joined(events: &Events, room: &RoomId, user: &str, position: u64) -> bool
-    ensures { result ≡ stood_joined user.now (between position_of 0 position (of_room room.now events.now)) }
-{
-    match events.last_of(room, MEMBER, user, position) {
-        Some(own) => is_join(own),
-        None => false,
-    }
 }

@@ -4,10 +4,13 @@
 mod counting;
 mod decider;
 mod entering;
+mod joined;
 mod laws;
+mod levels;
 mod marks;
 mod stored_rules;
 mod unread_counts;
+mod window;
 
 pub use counting::counts;
 pub use laws::counts_stay;
