@@ -52,7 +52,7 @@ all_shown l user room es = map (shown_to l user room) es
 abbrev pub joined_of : List (RoomId × Event) → List RoomId
 joined_of rooms = map (λ (p : RoomId × Event). p.0) (filter (λ (p : RoomId × Event). is_join (membership_of p.1)) rooms)
 
-abbrev pub joined_rooms_said : Lists → List ℕ → Said
+unfoldable pub joined_rooms_said : Lists → List ℕ → Said
 joined_rooms_said l user = said.Rooms (joined_of (rooms_of user l.events))
 
 -- ---- the state of a room
@@ -71,7 +71,7 @@ abbrev pub content_said : Bool → Option Event → Said
 content_said was_joined None = not_found
 content_said was_joined (Some e) = cond was_joined (said.Content e.content) forbidden
 
-abbrev pub state_content_said : Lists → List ℕ → RoomId → List ℕ → List ℕ → Said
+unfoldable pub state_content_said : Lists → List ℕ → RoomId → List ℕ → List ℕ → Said
 state_content_said l user room kind key =
     cond (has_room l room)
     (content_said (is_some (place_of l user room))
@@ -82,7 +82,7 @@ state_content_said l user room kind key =
 abbrev pub state_said : Lists → List ℕ → RoomId → ℕ → Said
 state_said l user room place = said.State (all_shown l user room (state_list plain (events_in l room) place))
 
-abbrev pub room_state_said : Lists → List ℕ → RoomId → Said
+unfoldable pub room_state_said : Lists → List ℕ → RoomId → Said
 room_state_said l user room = cond (has_room l room) (read_at (state_said l user room) (place_of l user room)) not_found
 
 -- ---- the members of a room
@@ -109,7 +109,7 @@ abbrev pub members_said : Lists → List ℕ → RoomId → Option (List ℕ) �
 members_said l user room membership not_membership place =
     said.Members (all_shown l user room (filter (is_selected membership not_membership) (members_at (events_in l room) place)))
 
-abbrev pub room_members_said : Lists → List ℕ → RoomId → Option (List ℕ) → Option (List ℕ) → Said
+unfoldable pub room_members_said : Lists → List ℕ → RoomId → Option (List ℕ) → Option (List ℕ) → Said
 room_members_said l user room membership not_membership =
     cond (has_room l room) (read_at (members_said l user room membership not_membership) (place_of l user room)) not_found
 
@@ -131,5 +131,5 @@ abbrev pub event_said : Option Shown → Said
 event_said None = not_found
 event_said (Some s) = said.Event s
 
-abbrev pub one_event_said : Lists → List ℕ → RoomId → List ℕ → Said
+unfoldable pub one_event_said : Lists → List ℕ → RoomId → List ℕ → Said
 one_event_said l user room text = event_said (option_map (shown_to l user room) (seen_event l user room text))

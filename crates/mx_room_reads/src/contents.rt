@@ -22,6 +22,7 @@ use std::alloc::Global;
 ///
 /// `NotFound` where the room isn't there, or nothing stands under the key; for a user that was never joined at the front.
 /// `Forbidden` to such a user where something does. Takes the time of some look-ups and searches.
+#[tactic(auto, unfolding(crate::specs::Reads::state_content_said))]
 pub fn state_content(
     alloc: Global,
     snapshot: &Snapshot,

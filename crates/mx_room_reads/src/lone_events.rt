@@ -17,6 +17,7 @@ use std::alloc::Global;
 ///
 /// `NotFound` where the room isn't there, the text is no event id of the user's server, no event of the room has it, or the
 /// user doesn't see it at the front. Takes the time of a look-up, and of some searches.
+#[tactic(auto, unfolding(crate::specs::Reads::one_event_said))]
 pub fn one_event(
     alloc: Global,
     snapshot: &Snapshot,

@@ -21,6 +21,7 @@ use std::alloc::Global;
 ///
 /// `NotFound` where the room isn't there, `Forbidden` to a user that was never joined. Takes the time of some searches, and
 /// of one for each member event of the room.
+#[tactic(auto, unfolding(crate::specs::Reads::room_members_said))]
 pub fn room_members(
     alloc: Global,
     snapshot: &Snapshot,

@@ -18,6 +18,7 @@ use std::alloc::Global;
 ///
 /// `NotFound` where the room isn't there, `Forbidden` to a user that was never joined. Takes the time of some searches, and
 /// of one for each state event of the room.
+#[tactic(auto, unfolding(crate::specs::Reads::room_state_said))]
 pub fn room_state(
     alloc: Global,
     snapshot: &Snapshot,

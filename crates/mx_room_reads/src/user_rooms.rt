@@ -14,6 +14,7 @@ use std::alloc::Global;
 
 /// The rooms in which a user is joined, by writer, then by position (Client-Server API, `GET /joined_rooms`). Takes the time
 /// of a look-up, and of the rooms in which the user has a member event.
+#[tactic(auto, unfolding(crate::specs::Reads::joined_rooms_said))]
 pub fn joined_rooms(alloc: Global, snapshot: &Snapshot, user: &UserId) -> Result<Said, Memory>
     ensures { IfOk result (λ said. said ≡ read.joined_rooms_said (lists_of snapshot.now) user.now) }
 {

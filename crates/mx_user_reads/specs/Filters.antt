@@ -34,7 +34,7 @@ first_filter user number (e ∷ es) = option_or (filter_in user number e) (first
 abbrev pub filter_stored : Lists → List ℕ → List ℕ → Option Json
 filter_stored l user id = option_and_then (λ number. first_filter user number l.accounts) (number_of id)
 
-abbrev pub stored_filter : Lists → List ℕ → List ℕ → Said
+unfoldable pub stored_filter : Lists → List ℕ → List ℕ → Said
 stored_filter l user id = told (filter_stored l user id)
 
 -- the filter that a value says, where it is one of a sync

@@ -19,7 +19,7 @@ abbrev pub rules_now : Lists → List ℕ → Rules
 rules_now l user = rules_at user (length l.accounts) l.accounts
 
 -- all rules, or the value of `global` alone
-abbrev pub push_rules : Lists → List ℕ → Bool → Said
+unfoldable pub push_rules : Lists → List ℕ → Bool → Said
 push_rules l user inner = said.Content (if inner then kinds_json (rules_now l user) else content_of (rules_now l user))
 
 -- the object of the rule of an id among those of a kind, if there is one
@@ -33,7 +33,7 @@ rule_json kinds.Room id rs = json_in with_nothing id rs.room
 rule_json kinds.Sender id rs = json_in with_nothing id rs.sender
 rule_json kinds.Underride id rs = json_in with_conditions id rs.underride
 
-abbrev pub push_rule : Lists → List ℕ → Kind → List ℕ → Said
+unfoldable pub push_rule : Lists → List ℕ → Kind → List ℕ → Said
 push_rule l user kind id = told (rule_json kind id (rules_now l user))
 
 -- whether the rule of an id is enabled, and its actions, if it is there
@@ -43,8 +43,14 @@ enabled_of kind id rs = of_kind kind (λ T es. option_map (λ r. r.enabled) (fin
 abbrev pub actions_of : Kind → List ℕ → Rules → Option (List Json)
 actions_of kind id rs = of_kind kind (λ T es. option_map (λ r. r.actions) (find id es)) rs
 
-abbrev pub rule_enabled : Lists → List ℕ → Kind → List ℕ → Said
-rule_enabled l user kind id = told (option_map (λ b. single (codes "enabled") (json.Bool b)) (enabled_of kind id (rules_now l user)))
+abbrev pub enabled_json : Option Bool → Option Json
+enabled_json o = option_map (λ b. single (codes "enabled") (json.Bool b)) o
 
-abbrev pub rule_actions : Lists → List ℕ → Kind → List ℕ → Said
-rule_actions l user kind id = told (option_map (λ js. single (codes "actions") (json.List js)) (actions_of kind id (rules_now l user)))
+abbrev pub actions_json : Option (List Json) → Option Json
+actions_json o = option_map (λ js. single (codes "actions") (json.List js)) o
+
+unfoldable pub rule_enabled : Lists → List ℕ → Kind → List ℕ → Said
+rule_enabled l user kind id = told (enabled_json (enabled_of kind id (rules_now l user)))
+
+unfoldable pub rule_actions : Lists → List ℕ → Kind → List ℕ → Said
+rule_actions l user kind id = told (actions_json (actions_of kind id (rules_now l user)))

@@ -38,7 +38,7 @@ has_default (Some room) kind = false
 abbrev pub default_value : List ℕ → Option RoomId → List ℕ → Option Json
 default_value user room kind = if has_default room kind then Some (content_of (default_rules user)) else None
 
-abbrev pub account_value : Lists → List ℕ → Option RoomId → List ℕ → Said
+unfoldable pub account_value : Lists → List ℕ → Option RoomId → List ℕ → Said
 account_value l user room kind =
     if is_there l room then told (option_or (stored_value l user room kind) (default_value user room kind)) else not_there
 
@@ -46,5 +46,5 @@ account_value l user room kind =
 abbrev pub tags_json : Option Json → Json
 tags_json content = single (codes "tags") (json.Object (tags_of content))
 
-abbrev pub room_tags : Lists → List ℕ → RoomId → Said
+unfoldable pub room_tags : Lists → List ℕ → RoomId → Said
 room_tags l user room = if has_room l room then said.Content (tags_json (stored_value l user (Some room) (codes "m.tag"))) else not_there

@@ -5,10 +5,11 @@ ghost use Rattle.std.specs.Option.{option_copied};
 ghost use Rattle.mx_rest.specs.Servers.{lists_of};
 ghost use Rattle.mx_user_reads.specs.Filters.{filter_for, filter_in, filter_read, filter_stored, first_filter, number_of, stored_filter};
 
+use crate::told::told_copy;
 use mx_account::Entry;
-use mx_ask::{FilterAsk, Refusal, Said};
+use mx_ask::{FilterAsk, Said};
 use mx_filter::{Filter, FilterFault, everything, read};
-use mx_ids::{Copied, Memory, Text, UserId};
+use mx_ids::{Memory, Text, UserId};
 use mx_json::Json;
 use mx_snapshot::{Accounts, Snapshot};
 use std::alloc::Global;
@@ -17,6 +18,7 @@ use std::alloc::Global;
 /// the decimal texts of numbers below 2^64, without leading zeros.
 ///
 /// `NotFound` exactly where the user has no filter of the id. Takes the time of all account data, as filters aren't indexed.
+#[tactic(auto, unfolding(crate::specs::Filters::stored_filter))]
 pub fn stored_filter(
     alloc: Global,
     snapshot: &Snapshot,
@@ -25,10 +27,8 @@ pub fn stored_filter(
 ) -> Result<Said, Memory>
     ensures { IfOk result (λ s. s ≡ stored_filter (lists_of snapshot.now) user.now id.now) }
 {
-    match filter_stored(alloc, snapshot, user, id)? {
-        Some(filter) => Ok(Said::Content(filter.copy(alloc)?)),
-        None => Ok(Said::Refused(Refusal::NotFound)),
-    }
+    let filter = filter_stored(alloc, snapshot, user, id)?;
+    told_copy(alloc, filter)
 }
 
 /// The filter that a sync asks by (Client-Server API, Filtering): one that lets all pass where it asks by none, the one that

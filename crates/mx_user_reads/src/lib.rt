@@ -5,6 +5,7 @@ mod filters;
 mod objects;
 mod one_rule;
 mod rules;
+mod told;
 mod values;
 
 pub use filters::{filter_for, stored_filter};

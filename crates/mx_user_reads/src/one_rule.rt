@@ -5,9 +5,9 @@ ghost use Rattle.std.specs.Option.{option_copied};
 ghost use Rattle.mx_rules.specs.Edits.{find};
 ghost use Rattle.mx_rules.specs.Rules.{rules_of};
 ghost use Rattle.mx_rules.specs.Writing.{entry_json};
-ghost use Rattle.mx_user_reads.specs.Rules.{actions_of, enabled_of, json_in, rule_json};
+ghost use Rattle.mx_user_reads.specs.Rules.{actions_json, actions_of, enabled_json, enabled_of, json_in, rule_json};
 
-use crate::objects::put;
+use crate::objects::{put, single};
 use indexmap::IndexMap;
 use mx_ids::{Copied, Memory, Seq, Text};
 use mx_json::{Json, Members};
@@ -78,6 +78,16 @@ fn enabled_in<T>(rules: &IndexMap<Text, Rule<T>>, id: &Text) -> Option<bool>
     Some(rules.get(id)?.enabled)
 }
 
+/// Whether a rule is enabled, in an object with the one key `enabled`.
+pub(crate) fn enabled_json(alloc: Global, enabled: Option<bool>) -> Result<Option<Json>, Memory>
+    ensures { IfOk result (λ o. o ≡ enabled_json enabled) }
+{
+    match enabled {
+        Some(enabled) => Ok(Some(single(alloc, "enabled", Json::Bool(enabled))?)),
+        None => Ok(None),
+    }
+}
+
 /// The actions of the rule of a kind and an id, if there is one.
 pub(crate) fn actions_of<'a>(rules: &'a RuleSet, kind: Kind, id: &Text) -> Option<&'a Seq<Json>>
     ensures { option_copied result ≡ actions_of kind id.now (rules_of rules.now) }
@@ -95,4 +105,20 @@ fn actions_in<'a, T>(rules: &'a IndexMap<Text, Rule<T>>, id: &Text) -> Option<&'
     ensures { option_copied result ≡ option_map (λ r. r.actions) (find id.now rules.now.entries) }
 {
     Some(&rules.get(id)?.actions)
+}
+
+/// A copy of the actions of a rule, in an object with the one key `actions`.
+pub(crate) fn actions_json(
+    alloc: Global,
+    actions: Option<&Seq<Json>>,
+) -> Result<Option<Json>, Memory>
+    ensures { IfOk result (λ o. o ≡ actions_json (option_copied actions.entry)) }
+{
+    match actions {
+        Some(actions) => {
+            let actions = Json::List(actions.copy(alloc)?);
+            Ok(Some(single(alloc, "actions", actions)?))
+        }
+        None => Ok(None),
+    }
 }

@@ -6,10 +6,10 @@ ghost use Rattle.mx_rules.specs.Rules.{rules_of};
 ghost use Rattle.mx_rules.specs.Writing.{kinds_json};
 ghost use Rattle.mx_user_reads.specs.Rules.{push_rule, push_rules, rule_actions, rule_enabled, rules_now};
 
-use crate::objects::single;
-use crate::one_rule::{actions_of, enabled_of, rule_json};
+use crate::one_rule::{actions_json, actions_of, enabled_json, enabled_of, rule_json};
+use crate::told::told;
 use crate::values::{PUSH_RULES, stored_value};
-use mx_ask::{Refusal, Said};
+use mx_ask::Said;
 use mx_ids::{Copied, Memory, Text, UserId};
 use mx_json::Json;
 use mx_rules::{Kind, RuleSet, defaults};
@@ -19,6 +19,7 @@ use std::alloc::Global;
 /// A user's push rules: those that are stored, or the default ones where none are (Client-Server API, Push rules,
 /// `GET /pushrules/`). With `inner` they are the value of `global` alone (`GET /pushrules/global/`). Takes the time of a
 /// look-up, and of the rules.
+#[tactic(auto, unfolding(crate::specs::Rules::push_rules))]
 pub fn push_rules(
     alloc: Global,
     snapshot: &Snapshot,
@@ -38,6 +39,7 @@ pub fn push_rules(
 /// A user's push rule of a kind and an id (Client-Server API, Push rules, `GET /pushrules/global/{kind}/{ruleId}`).
 ///
 /// `NotFound` exactly where the kind has no rule of the id. Takes the time of a look-up, and of the rules.
+#[tactic(auto, unfolding(crate::specs::Rules::push_rule))]
 pub fn push_rule(
     alloc: Global,
     snapshot: &Snapshot,
@@ -48,16 +50,14 @@ pub fn push_rule(
     ensures { IfOk result (λ s. s ≡ push_rule (lists_of snapshot.now) user.now kind id.now) }
 {
     let rules = rules_now(alloc, snapshot, user)?;
-    match rule_json(alloc, &rules, kind, id)? {
-        Some(json) => Ok(Said::Content(json)),
-        None => Ok(Said::Refused(Refusal::NotFound)),
-    }
+    Ok(told(rule_json(alloc, &rules, kind, id)?))
 }
 
 /// Whether a user's push rule of a kind and an id is enabled, in an object with the one key `enabled` (Client-Server API,
 /// Push rules, `GET /pushrules/global/{kind}/{ruleId}/enabled`).
 ///
 /// `NotFound` exactly where the kind has no rule of the id. Takes the time of a look-up, and of the rules.
+#[tactic(auto, unfolding(crate::specs::Rules::rule_enabled))]
 pub fn rule_enabled(
     alloc: Global,
     snapshot: &Snapshot,
@@ -68,16 +68,14 @@ pub fn rule_enabled(
     ensures { IfOk result (λ s. s ≡ rule_enabled (lists_of snapshot.now) user.now kind id.now) }
 {
     let rules = rules_now(alloc, snapshot, user)?;
-    match enabled_of(&rules, kind, id) {
-        Some(enabled) => Ok(Said::Content(single(alloc, "enabled", Json::Bool(enabled))?)),
-        None => Ok(Said::Refused(Refusal::NotFound)),
-    }
+    Ok(told(enabled_json(alloc, enabled_of(&rules, kind, id))?))
 }
 
 /// The actions of a user's push rule of a kind and an id, in an object with the one key `actions` (Client-Server API, Push
 /// rules, `GET /pushrules/global/{kind}/{ruleId}/actions`).
 ///
 /// `NotFound` exactly where the kind has no rule of the id. Takes the time of a look-up, and of the rules.
+#[tactic(auto, unfolding(crate::specs::Rules::rule_actions))]
 pub fn rule_actions(
     alloc: Global,
     snapshot: &Snapshot,
@@ -88,13 +86,7 @@ pub fn rule_actions(
     ensures { IfOk result (λ s. s ≡ rule_actions (lists_of snapshot.now) user.now kind id.now) }
 {
     let rules = rules_now(alloc, snapshot, user)?;
-    match actions_of(&rules, kind, id) {
-        Some(actions) => {
-            let actions = Json::List(actions.copy(alloc)?);
-            Ok(Said::Content(single(alloc, "actions", actions)?))
-        }
-        None => Ok(Said::Refused(Refusal::NotFound)),
-    }
+    Ok(told(actions_json(alloc, actions_of(&rules, kind, id))?))
 }
 
 /// The rules that are stored, or the default ones.

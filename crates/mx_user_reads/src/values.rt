@@ -29,6 +29,7 @@ const TAGS: &str = "m.tag";
 /// type `m.push_rules` are the default push rules where none are stored.
 ///
 /// `NotFound` exactly where the room isn't there, or nothing is stored. Takes the time of some look-ups.
+#[tactic(auto, unfolding(crate::specs::Values::account_value))]
 pub fn account_value(
     alloc: Global,
     snapshot: &Snapshot,
@@ -51,6 +52,7 @@ pub fn account_value(
 /// `GET /user/{userId}/rooms/{roomId}/tags`), which is empty where the user set none.
 ///
 /// `NotFound` exactly where the room isn't there. Takes the time of some look-ups.
+#[tactic(auto, unfolding(crate::specs::Values::room_tags))]
 pub fn room_tags(
     alloc: Global,
     snapshot: &Snapshot,
