@@ -1,24 +1,19 @@
 -- A user's account data (Client-Server API, Client Config), and the tags of a room (Client-Server API, Room Tagging).
 use Rattle.std.specs.Prelude.{ℕ, Bool, true, false, List, length, Option, Some, None, codes, if◌then◌else◌}
-use Rattle.std.specs.List.{list_any}
 use Rattle.std.specs.Option.{option_or}
 use Rattle.std.specs.Str.{bytes_eq}
 use Rattle.mx_account.specs.Tags.{tags_of}
 use Rattle.mx_account.specs.Values.{value_at}
 use Rattle.mx_ask.specs.declared.said.Said.{Said}
 use Rattle.mx_ask.specs.declared.said.Said.TheVariants as said
-use Rattle.mx_event.specs.Lawful.{same_room}
 use Rattle.mx_fold.specs.Lists.{Lists}
 use Rattle.mx_ids.specs.declared.room_id.RoomId.{RoomId}
 use Rattle.mx_json.specs.declared.value.Json.{Json}
 use Rattle.mx_json.specs.declared.value.Json.TheVariants as json
+use Rattle.mx_room_reads.specs.Places.{has_room}
 use Rattle.mx_rules.specs.Defaults.{default_rules}
 use Rattle.mx_rules.specs.Writing.{content_of, single}
 use Rattle.mx_user_reads.specs.Told.{not_there, told}
-
--- some event is of the room
-abbrev pub has_room : Lists → RoomId → Bool
-has_room l room = list_any (λ e. same_room e.room room) l.events
 
 -- the room is there, where one is named
 abbrev pub is_there : Lists → Option RoomId → Bool

@@ -6,7 +6,7 @@ ghost use Rattle.mx_account.specs.Entries.{content_of};
 ghost use Rattle.mx_rest.specs.Servers.{lists_of};
 ghost use Rattle.mx_rules.specs.Defaults.{default_rules};
 ghost use Rattle.mx_rules.specs.Writing as rules;
-ghost use Rattle.mx_user_reads.specs.Values.{account_value, default_value, has_default, has_room, is_there, room_tags, stored_value, tags_json};
+ghost use Rattle.mx_user_reads.specs.Values.{account_value, default_value, has_default, is_there, room_tags, stored_value, tags_json};
 ghost use Rattle.mx_user_reads.specs.Told.{told};
 
 use crate::objects::single;
@@ -14,6 +14,7 @@ use mx_account::{Entry, tags_of};
 use mx_ask::{Refusal, Said};
 use mx_ids::{Copied, Memory, RoomId, Text, UserId};
 use mx_json::{Json, Members};
+use mx_room_reads::has_room;
 use mx_rules::defaults;
 use mx_snapshot::Snapshot;
 use std::alloc::Global;
@@ -76,14 +77,6 @@ fn is_there(snapshot: &Snapshot, room: Option<RoomId>) -> bool
         Some(room) => has_room(snapshot, &room),
         None => true,
     }
-}
-
-/// Whether some event is of the room.
-fn has_room(snapshot: &Snapshot, room: &RoomId) -> bool
-    ensures { result ≡ has_room (lists_of snapshot.now) room.now }
-{
-    let _front = snapshot.events.front();
-    snapshot.events.last_in(room) > 0
 }
 
 /// The content that a user last stored under a type.
