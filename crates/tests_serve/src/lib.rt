@@ -2,6 +2,8 @@
 #![tactic(auto)]
 
 #[cfg(test)]
+mod default_rules;
+#[cfg(test)]
 mod ends;
 #[cfg(test)]
 mod make;

@@ -1,5 +1,7 @@
 //! Sessions of one connection as tables. A call is a line `METHOD PATH TOKEN BODY`, and the line below it is its answer, `STATUS
-//! BODY`. A path stands under `/_matrix/client/v3`, unless it begins with `/_matrix`; the token `-` is none.
+//! BODY`. A path stands under `/_matrix/client/v3`, unless it begins with `/_matrix`; the token `-` is none. In the body of an answer
+//! `<USER>` stands for the user's default push rules.
+use crate::default_rules::default_rules;
 use crate::make::{Case, answer, expect, usual_case};
 use mx_ids::Memory;
 use std::alloc::Global;
@@ -70,9 +72,28 @@ fn token_field(alloc: Global, token: &str) -> Result<String, Memory> {
 
 fn add_answer(alloc: Global, answers: &mut String, line: &str) -> Result<(), Memory> {
     let (status, body) = cut(line);
-    let told = answer(alloc, phrase(status), "", body)?;
+    let body = filled(alloc, body)?;
+    let told = answer(alloc, phrase(status), "", body.as_str())?;
     answers.push_str(told.as_str())?;
     Ok(())
+}
+
+/// The body with a user's default push rules in the place of its mark, if it has one.
+fn filled(alloc: Global, body: &str) -> Result<String, Memory> {
+    match body.split_once('<') {
+        Some((before, rest)) => with_rules(alloc, before, rest),
+        None => Ok(String::from_str(alloc, body)?),
+    }
+}
+
+/// What stands before a mark, the rules, and what stands behind it.
+fn with_rules(alloc: Global, before: &str, rest: &str) -> Result<String, Memory> {
+    let (user, behind) = match rest.split_once('>') {
+        Some(parts) => parts,
+        None => (rest, ""),
+    };
+    let rules = default_rules(alloc, user)?;
+    Ok(format!(in alloc; "{before}{rules}{behind}")?)
 }
 
 /// A status with its phrase (RFC 9110, section 15).
