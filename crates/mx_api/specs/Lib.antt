@@ -1,5 +1,6 @@
 pub mod Bodies
 pub mod Calls
+pub mod Endpoints
 pub mod Errors
 pub mod Parts
 pub mod Queries

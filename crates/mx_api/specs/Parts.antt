@@ -1,5 +1,5 @@
 -- The parts of a path, where there are so many.
-use Rattle.std.specs.Prelude.{ℕ, List, [], ◌∷◌, Option, Some, None}
+use Rattle.std.specs.Prelude.{ℕ, List, [], ◌∷◌, Option, Some, None, option_map}
 use Rattle.mx_api.specs.declared.asked.Asked.{Asked}
 use Rattle.mx_api.specs.declared.asked.Asked.TheVariants as asked
 use Rattle.mx_api.specs.declared.refused.Refused.TheVariants as refused
@@ -11,6 +11,10 @@ one_part other = None
 abbrev pub two_parts : List (List ℕ) → Option (List ℕ × List ℕ)
 two_parts (a ∷ b ∷ []) = Some (a, b)
 two_parts other = None
+
+-- the room that a path of two parts names
+abbrev pub room_of : List (List ℕ) → Option (List ℕ)
+room_of parts = option_map (λ p. p.0) (two_parts parts)
 
 abbrev pub three_parts : List (List ℕ) → Option (List ℕ × List ℕ × List ℕ)
 three_parts (a ∷ b ∷ c ∷ []) = Some (a, b, c)

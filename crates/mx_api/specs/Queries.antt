@@ -1,5 +1,5 @@
 -- The parameters of a query (Client-Server API). Of a repeated parameter the first counts, and unknown ones have no effect.
-use Rattle.std.specs.Prelude.{ℕ, ◌+◌, ◌-◌, ◌*◌, ◌&&◌, min, nat_lt, length, List, [], ◌∷◌, Bool, false, not, Option, Some, None, if◌then◌else◌}
+use Rattle.std.specs.Prelude.{ℕ, ◌+◌, ◌-◌, ◌*◌, ◌==◌, ◌&&◌, min, nat_lt, length, List, [], ◌∷◌, Bool, false, not, Option, Some, None, if◌then◌else◌}
 use Rattle.std.specs.List.{list_all}
 use Rattle.std.specs.Option.{option_or}
 use Rattle.std.specs.Str.{bytes_eq}
@@ -19,6 +19,11 @@ is_number text = nat_lt 0 (length text) && list_all is_digit text
 -- the number that a text of digits alone spells, cut to at most so much
 unfoldable pub number_within : ℕ → List ℕ → Option ℕ
 number_within most text = if is_number text then Some (min (spelled 0 text) most) else None
+
+-- a filter that is JSON begins with `{`
+abbrev pub begins_object : List ℕ → Bool
+begins_object [] = false
+begins_object (c ∷ cs) = c == 123
 
 -- a value that is there and isn't of a form
 abbrev pub is_wrong : (List ℕ → Bool) → Option (List ℕ) → Bool

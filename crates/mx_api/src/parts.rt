@@ -3,7 +3,7 @@ ghost use Rattle.std.specs.Prelude.{◌≡◌, ◌==◌, IfOk, map};
 ghost use Rattle.std.specs.List.{slice_split};
 ghost use Rattle.mx_http.specs.Paths.{decoded_parts};
 ghost use Rattle.mx_api.specs.Calls.{raw_parts};
-ghost use Rattle.mx_api.specs.Parts.{four_parts, one_part, three_parts, two_parts};
+ghost use Rattle.mx_api.specs.Parts.{four_parts, one_part, room_of, three_parts, two_parts};
 
 use mx_http::path_parts;
 use mx_ids::{Memory, Seq, Text};
@@ -47,6 +47,14 @@ pub fn two_parts(parts: Seq<Text>) -> Option<(Text, Text)>
         (Some(first), Some(second), None) => Some((first, second)),
         _ => None,
     }
+}
+
+/// The room that a path of two parts names, `{roomId}` and a word. Takes no memory.
+pub fn room_of(parts: Seq<Text>) -> Option<Text>
+    ensures { result ≡ room_of parts }
+{
+    let (room, _) = two_parts(parts)?;
+    Some(room)
 }
 
 /// The parts, where there are three. Takes no memory.

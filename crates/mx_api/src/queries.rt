@@ -1,11 +1,34 @@
 //! The parameters of a query: numbers, and which of them isn't of its form.
-ghost use Rattle.std.specs.Prelude.{◌≡◌, ◌≤◌, IfSome, min};
+ghost use Rattle.std.specs.Prelude.{◌≡◌, ◌≤◌, IfOk, IfSome, min};
 ghost use Rattle.std.specs.List.{list_all};
+ghost use Rattle.mx_http.specs.Queries.{parameter};
 ghost use Rattle.mx_ids.specs.Decimal.{is_digit};
-ghost use Rattle.mx_api.specs.Queries.{first_wrong, is_number, number_within, spelled, wrong_named};
+ghost use Rattle.mx_api.specs.Queries.{begins_object, first_wrong, is_number, number_within, spelled, wrong_named};
 
 use crate::refused::Parameter;
-use mx_ids::Text;
+use mx_http::parameter;
+use mx_ids::{Copied, Memory, Text};
+use std::alloc::Global;
+
+/// A copy of the value of the first parameter of a name.
+pub fn value_at(alloc: Global, query: &[(Text, Text)], name: &str) -> Result<Option<Text>, Memory>
+    ensures { IfOk result (λ value. value ≡ parameter name.now query.now) }
+{
+    match parameter(query, name) {
+        Some(value) => Ok(Some(value.copy(alloc)?)),
+        None => Ok(None),
+    }
+}
+
+/// Whether a value begins with `{`, as a filter does that is JSON. Takes no memory.
+pub fn begins_object(value: &[u8]) -> bool
+    ensures { result ≡ begins_object value.now }
+{
+    match value {
+        [first, ..] => *first == b'{',
+        [] => false,
+    }
+}
 
 /// The number that a text of decimal digits spells, cut to `most`; `None` exactly where the text isn't digits alone. It may
 /// have leading zeros and any length. Takes no memory.

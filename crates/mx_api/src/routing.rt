@@ -1,28 +1,20 @@
-//! The table of the routes of a crate, and the route of a path.
-ghost use Rattle.std.specs.Prelude.{◌≡◌, ℕ, List, IfOk, option_map};
+//! The table of the endpoints of a crate, and the endpoint of a path.
+ghost use Rattle.std.specs.Prelude.{◌≡◌, IfOk, option_map};
 ghost use Rattle.matchit.specs.Seek.{first};
 ghost use Rattle.mx_api.specs.Routing.{rows_of};
 
+use crate::endpoint::Endpoint;
 use matchit::Router;
 use mx_ids::Memory;
 use std::alloc::Global;
 
-/// A route, which has a path with parameters in braces.
-pub trait RoutePath: Copy + Drop {
-    ghost path: { Self → List ℕ };
-
-    /// The path, with its parameters.
-    fn path(self) -> &'static str
-        ensures { result.now ≡ path self };
-}
-
-/// The table of routes by their paths. `Memory` where there is no room for it, or two of the paths conflict.
-pub fn router_of<R: RoutePath>(alloc: Global, routes: &[R]) -> Result<Router<R>, Memory>
-    ensures { IfOk result (λ router. router ≡ rows_of R.path routes.now) }
+/// The table of endpoints by their paths. `Memory` where there is no room for it, or two of the paths conflict.
+pub fn router_of<E: Endpoint>(alloc: Global, endpoints: &[E]) -> Result<Router<E>, Memory>
+    ensures { IfOk result (λ router. router ≡ rows_of E.path endpoints.now) }
 {
     let mut router = Router::new(alloc);
-    'routes: for route in routes {
-        match router.insert(route.path(), *route) {
+    'endpoints: for endpoint in endpoints {
+        match router.insert(endpoint.path(), *endpoint) {
             Ok(()) => {}
             Err(_) => return Err(Memory),
         }
@@ -30,8 +22,8 @@ pub fn router_of<R: RoutePath>(alloc: Global, routes: &[R]) -> Result<Router<R>,
     Ok(router)
 }
 
-/// The route that a path finds. Takes no memory.
-pub fn route_at<R: RoutePath>(router: &Router<R>, path: &str) -> Option<R>
+/// The endpoint that a path finds. Takes no memory.
+pub(crate) fn route_at<E: Endpoint>(router: &Router<E>, path: &str) -> Option<E>
     ensures { result ≡ option_map (λ row. row.value) (first router.now path.now) }
 {
     match router.at(path) {

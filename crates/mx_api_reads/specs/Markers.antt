@@ -9,14 +9,13 @@ use Rattle.mx_ask.specs.declared.ask.Ask.TheVariants as ask
 use Rattle.mx_ask.specs.declared.ask.Who.{Who}
 use Rattle.mx_api.specs.Bodies.{posted}
 use Rattle.mx_api.specs.Calls.{asked_by, request}
-use Rattle.mx_api.specs.Parts.{asked_of, four_parts}
+use Rattle.mx_api.specs.Parts.{asked_of, four_parts, room_of}
 use Rattle.mx_api.specs.declared.asked.Asked.{Asked}
 use Rattle.mx_api.specs.declared.authenticated.Authenticated.{Authenticated}
 use Rattle.mx_api.specs.declared.refused.Field.{Field}
 use Rattle.mx_api.specs.declared.refused.Field.TheVariants as fields
 use Rattle.mx_api.specs.declared.refused.Refused.{Refused}
 use Rattle.mx_api.specs.declared.refused.Refused.TheVariants as refused
-use Rattle.mx_api_reads.specs.Reads.{room_of}
 
 -- ---- POST /rooms/{roomId}/receipt/{receiptType}/{eventId}
 

@@ -1,5 +1,5 @@
 -- A page of a room's events (Client-Server API, `GET /rooms/{roomId}/messages`).
-use Rattle.std.specs.Prelude.{ℕ, ◌==◌, ◌||◌, List, [], ◌∷◌, Bool, false, Option, Some, None, is_some, Result, Ok, Err, option_and_then, option_map, unwrap_or, codes}
+use Rattle.std.specs.Prelude.{ℕ, ◌||◌, List, [], ◌∷◌, Bool, Option, Some, None, is_some, Result, Ok, Err, option_and_then, option_map, unwrap_or, codes}
 use Rattle.std.specs.Option.{option_or}
 use Rattle.std.specs.Str.{bytes_eq}
 use Rattle.mx_json.specs.declared.value.Json.{Json}
@@ -13,8 +13,8 @@ use Rattle.mx_ask.specs.declared.ask.Who.{Who}
 use Rattle.mx_http.specs.Queries.{parameter}
 use Rattle.mx_api.specs.Bodies.{json_of}
 use Rattle.mx_api.specs.Calls.{and_then, asked_by, request}
-use Rattle.mx_api.specs.Parts.{asked_of}
-use Rattle.mx_api.specs.Queries.{first_wrong, is_wrong, number_within}
+use Rattle.mx_api.specs.Parts.{asked_of, room_of}
+use Rattle.mx_api.specs.Queries.{begins_object, first_wrong, is_wrong, number_within}
 use Rattle.mx_api.specs.Tokens.{page_token_of, sync_token_of}
 use Rattle.mx_api.specs.declared.asked.Asked.{Asked}
 use Rattle.mx_api.specs.declared.asked.Asked.TheVariants as asked
@@ -24,7 +24,6 @@ use Rattle.mx_api.specs.declared.refused.Parameter.{Parameter}
 use Rattle.mx_api.specs.declared.refused.Parameter.TheVariants as name
 use Rattle.mx_api.specs.declared.refused.Refused.{Refused}
 use Rattle.mx_api.specs.declared.refused.Refused.TheVariants as refused
-use Rattle.mx_api_reads.specs.Reads.{room_of}
 
 -- ---- the forms of the parameters
 
@@ -44,11 +43,6 @@ limit_of value = number_within 1000 value
 
 abbrev pub is_limit : List ℕ → Bool
 is_limit value = is_some (limit_of value)
-
--- a filter begins with `{`
-abbrev pub begins_object : List ℕ → Bool
-begins_object [] = false
-begins_object (c ∷ cs) = c == 123
 
 -- the first parameter of a query that isn't of its form
 unfoldable pub first_bad : List (List ℕ × List ℕ) → Option Parameter

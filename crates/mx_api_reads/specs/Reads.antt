@@ -1,15 +1,11 @@
 -- Calls that read a room (Client-Server API, Getting events for a room), by the parts of the path from `{roomId}` on.
-use Rattle.std.specs.Prelude.{ℕ, List, Option, option_map, codes}
+use Rattle.std.specs.Prelude.{codes}
 use Rattle.mx_ask.specs.declared.ask.Ask.TheVariants as ask
 use Rattle.mx_http.specs.Queries.{parameter}
 use Rattle.mx_api.specs.Calls.{request}
-use Rattle.mx_api.specs.Parts.{asked_of, three_parts, two_parts}
+use Rattle.mx_api.specs.Parts.{asked_of, room_of, three_parts}
 use Rattle.mx_api.specs.declared.asked.Asked.{Asked}
 use Rattle.mx_api.specs.declared.authenticated.Authenticated.{Authenticated}
-
--- the room that a path of two parts names
-abbrev pub room_of : List (List ℕ) → Option (List ℕ)
-room_of parts = option_map (λ p. p.0) (two_parts parts)
 
 -- GET /rooms/{roomId}/state
 abbrev pub state_asked : Authenticated → Asked

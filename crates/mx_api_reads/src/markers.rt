@@ -4,8 +4,7 @@ ghost use Rattle.mx_api.specs.Calls.{IsAsked};
 ghost use Rattle.mx_api_reads.specs.Markers.{event_named, marked_asked, marked_by, markers_by, markers_from, markers_to, read_markers_asked, receipt_asked, text_or};
 ghost use Rattle.mx_json.specs.Fields.{text_of};
 
-use crate::reads::room_of;
-use mx_api::{Asked, Authenticated, Field, Refused, four_parts, post_body};
+use mx_api::{Asked, Authenticated, Field, Refused, four_parts, post_body, room_of};
 use mx_ask::{Ask, Request, Who};
 use mx_ids::{Copied, Memory, Text};
 use mx_json::Json;

@@ -5,8 +5,7 @@ ghost use Rattle.mx_api.specs.Calls.{IsAsked};
 ghost use Rattle.mx_api_reads.specs.Messages.{directed, filter_in, filter_of, messages_asked, page_asked};
 
 use crate::page_query::{bound_at, first_bad, limit_in};
-use crate::reads::room_of;
-use mx_api::{Asked, Authenticated, Field, Parameter, Refused, json_value};
+use mx_api::{Asked, Authenticated, Field, Parameter, Refused, json_value, room_of};
 use mx_ask::{Ask, Request, Who};
 use mx_filter::{Filter, FilterFault, everything, read_part};
 use mx_http::parameter;

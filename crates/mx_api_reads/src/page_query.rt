@@ -1,9 +1,9 @@
 //! The parameters of a page, and their forms.
 ghost use Rattle.std.specs.Prelude.{◌≡◌, ◌≤◌, option_map};
-ghost use Rattle.mx_api.specs.Queries.{is_wrong};
-ghost use Rattle.mx_api_reads.specs.Messages.{begins_object, bound_at, bound_of, first_bad, is_bound, is_direction, is_limit, limit_in};
+ghost use Rattle.mx_api.specs.Queries.{begins_object, is_wrong};
+ghost use Rattle.mx_api_reads.specs.Messages.{bound_at, bound_of, first_bad, is_bound, is_direction, is_limit, limit_in};
 
-use mx_api::{Parameter, first_wrong, number_within, page_token_of, sync_token_of};
+use mx_api::{Parameter, begins_object, first_wrong, number_within, page_token_of, sync_token_of};
 use mx_http::parameter;
 use mx_ids::Text;
 use mx_pager::Bound;
@@ -66,16 +66,6 @@ fn is_no_object(value: Option<&Text>) -> bool
     match value {
         Some(text) => !begins_object(text.as_str().as_bytes()),
         None => false,
-    }
-}
-
-/// Whether the text begins with `{`.
-fn begins_object(value: &[u8]) -> bool
-    ensures { result ≡ begins_object value.now }
-{
-    match value {
-        [first, ..] => *first == b'{',
-        [] => false,
     }
 }
 

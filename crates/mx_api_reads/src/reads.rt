@@ -1,22 +1,12 @@
 //! Calls that read a room's state and events.
-ghost use Rattle.std.specs.Prelude.{◌≡◌, IfOk, option_map};
-ghost use Rattle.mx_http.specs.Queries.{parameter};
+ghost use Rattle.std.specs.Prelude.{◌≡◌, IfOk};
 ghost use Rattle.mx_api.specs.Calls.{IsAsked};
-ghost use Rattle.mx_api_reads.specs.Reads.{event_asked, members_asked, room_of, state_asked};
+ghost use Rattle.mx_api_reads.specs.Reads.{event_asked, members_asked, state_asked};
 
-use mx_api::{Asked, Authenticated, Refused, three_parts, two_parts};
+use mx_api::{Asked, Authenticated, Refused, room_of, three_parts, value_at};
 use mx_ask::{Ask, Request};
-use mx_http::parameter;
-use mx_ids::{Copied, Memory, Seq, Text};
+use mx_ids::Memory;
 use std::alloc::Global;
-
-/// The room that a path of two parts names.
-pub(crate) fn room_of(parts: Seq<Text>) -> Option<Text>
-    ensures { result ≡ room_of parts }
-{
-    let (room, _) = two_parts(parts)?;
-    Some(room)
-}
 
 /// All of a room's state.
 pub(crate) fn state(call: Authenticated) -> Asked
@@ -52,16 +42,6 @@ pub(crate) fn members(alloc: Global, call: Authenticated) -> Result<Asked, Memor
         not_membership,
     };
     Ok(Asked::Request(Request { who, ask }))
-}
-
-/// The value of the first parameter of a name.
-fn value_at(alloc: Global, query: &[(Text, Text)], name: &str) -> Result<Option<Text>, Memory>
-    ensures { IfOk result (λ value. value ≡ parameter name.now query.now) }
-{
-    match parameter(query, name) {
-        Some(value) => Ok(Some(value.copy(alloc)?)),
-        None => Ok(None),
-    }
 }
 
 /// An event of a room.

@@ -1,8 +1,12 @@
 //! The routes that read rooms, and that mark what was read.
-ghost use Rattle.std.specs.Prelude.{◌≡◌};
-ghost use Rattle.mx_api_reads.specs.Routes.{has_method, path_of};
 
-use mx_api::RoutePath;
+use crate::markers::{mark, read_markers};
+use crate::messages::messages;
+use crate::reads::{event, members, state};
+use mx_api::{Asked, Authenticated, Endpoint};
+use mx_ask::{Ask, Request};
+use mx_ids::Memory;
+use std::alloc::Global;
 
 /// A route, by its path.
 #[derive(Clone, Copy, Drop)]
@@ -34,10 +38,15 @@ pub(crate) const ROUTES: [Route; 7] = [
     Route::ReadMarkers,
 ];
 
-impl RoutePath for Route {
-    ghost use Rattle.mx_api_reads.specs.Routes.{path_of};
+impl Endpoint for Route {
+    ghost use Rattle.mx_api_reads.specs.Asked.{route_asked};
+    ghost use Rattle.mx_api_reads.specs.Routes.{has_method, path_of};
 
     ghost path = { path_of };
+
+    ghost has_method = { has_method };
+
+    ghost asks = { route_asked };
 
     fn path(self) -> &'static str {
         match self {
@@ -52,17 +61,33 @@ impl RoutePath for Route {
             Route::ReadMarkers => "/_matrix/client/v3/rooms/{roomId}/read_markers",
         }
     }
-}
 
-impl Route {
-    /// Whether the path has a method.
-    pub(crate) fn has_method(self, method: &str) -> bool
-        ensures { result ≡ has_method self method.now }
-    {
+    fn has_method(self, method: &str) -> bool {
         match self {
             Route::JoinedRooms | Route::State | Route::Members | Route::Event | Route::Messages =>
                 method == "GET",
             Route::Receipt | Route::ReadMarkers => method == "POST",
+        }
+    }
+
+    fn ask(
+        self,
+        alloc: Global,
+        _method: &str,
+        body: &[u8],
+        caller: Authenticated,
+    ) -> Result<Asked, Memory> {
+        match self {
+            Route::JoinedRooms => Ok(Asked::Request(Request {
+                who: caller.who,
+                ask: Ask::JoinedRooms,
+            })),
+            Route::State => Ok(state(caller)),
+            Route::Members => members(alloc, caller),
+            Route::Event => Ok(event(caller)),
+            Route::Messages => messages(alloc, caller),
+            Route::Receipt => mark(alloc, caller, body),
+            Route::ReadMarkers => read_markers(alloc, caller, body),
         }
     }
 }

@@ -1,26 +1,26 @@
 -- What a call on a room asks, or the first refusal.
-use Rattle.std.specs.Prelude.{ℕ, List, Option, Some, None, option_map, if◌then◌else◌}
-use Rattle.matchit.specs.Seek.{first}
+use Rattle.std.specs.Prelude.{ℕ, List, Option, Some, None}
 use Rattle.mx_ids.specs.declared.users.Users.{Users}
 use Rattle.mx_json.specs.declared.value.Json.{Json}
-use Rattle.mx_http.specs.Queries.{path_of}
 use Rattle.mx_http.specs.declared.call.Call.{Call}
 use Rattle.mx_create.specs.Bodies.{wrong_field}
 use Rattle.mx_create.specs.declared.body.BodyField.{BodyField}
 use Rattle.mx_ask.specs.declared.ask.Ask.TheVariants as ask
 use Rattle.mx_ask.specs.declared.ask.Who.{Who}
 use Rattle.mx_api.specs.Bodies.{posted}
-use Rattle.mx_api.specs.Calls.{asked_by, authenticated, request}
-use Rattle.mx_api.specs.Parts.{one_part}
+use Rattle.mx_api.specs.Calls.{asked_by, request}
+use Rattle.mx_api.specs.Endpoints.{asked_at}
+use Rattle.mx_api.specs.Parts.{one_part, room_of}
 use Rattle.mx_api.specs.declared.asked.Asked.{Asked}
 use Rattle.mx_api.specs.declared.asked.Asked.TheVariants as asked
 use Rattle.mx_api.specs.declared.authenticated.Authenticated.{Authenticated}
 use Rattle.mx_api.specs.declared.refused.Field.TheVariants as field
 use Rattle.mx_api.specs.declared.refused.Refused.TheVariants as refused
 use Rattle.mx_api_room.specs.Events.{redact_asked, send_asked, state_asked, state_at_key_asked}
-use Rattle.mx_api_room.specs.Membership.{change_asked, join_asked, leave_asked, room_of}
+use Rattle.mx_api_room.specs.Membership.{change_asked, own_asked}
 use Rattle.mx_api_room.specs.Routes.{has_method, table}
 use Rattle.mx_api_room.specs.declared.membership.Change.TheVariants as change
+use Rattle.mx_api_room.specs.declared.membership.OwnChange.TheVariants as own
 use Rattle.mx_api_room.specs.declared.route.Route.{Route}
 use Rattle.mx_api_room.specs.declared.route.Route.TheVariants as route
 
@@ -43,19 +43,14 @@ route_asked route.StateAtKey method body call = state_at_key_asked method call b
 route_asked route.StateAtEmptyKey method body call = state_at_key_asked method call body
 route_asked route.State method body call = state_asked method call body
 route_asked route.Redact method body call = redact_asked call body
-route_asked route.JoinById method body call = join_asked call.who (one_part call.parts) body
-route_asked route.Join method body call = join_asked call.who (room_of call.parts) body
-route_asked route.Leave method body call = leave_asked call.who (room_of call.parts) body
+route_asked route.JoinById method body call = own_asked own.Join call.who (one_part call.parts) body
+route_asked route.Join method body call = own_asked own.Join call.who (room_of call.parts) body
+route_asked route.Leave method body call = own_asked own.Leave call.who (room_of call.parts) body
 route_asked route.Invite method body call = change_asked change.Invite call.who (room_of call.parts) body
 route_asked route.Kick method body call = change_asked change.Kick call.who (room_of call.parts) body
 route_asked route.Ban method body call = change_asked change.Ban call.who (room_of call.parts) body
 route_asked route.Unban method body call = change_asked change.Unban call.who (room_of call.parts) body
 
-abbrev pub asked_on : Users → Call → Option Route → Asked
-asked_on users call None = asked.NoRoute
-asked_on users call (Some route) =
-    if has_method route call.method then asked_by (route_asked route call.method call.body) (authenticated users call) else asked.Refused refused.NoMethod
-
 -- what a call asks by the route that its path finds, or the first refusal
 unfoldable pub room_asked : Users → Call → Asked
-room_asked users call = asked_on users call (option_map (λ row. row.value) (first table (path_of call.target)))
+room_asked users call = asked_at has_method route_asked table users call

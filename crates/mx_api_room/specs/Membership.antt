@@ -1,30 +1,28 @@
 -- Calls that change a membership of a room (Client-Server API, Room membership).
-use Rattle.std.specs.Prelude.{ℕ, List, Option, Some, None, option_map, codes}
+use Rattle.std.specs.Prelude.{ℕ, List, Option, Some, None, codes}
 use Rattle.mx_json.specs.Fields.{text_at}
 use Rattle.mx_ask.specs.declared.ask.Ask.{Ask}
 use Rattle.mx_ask.specs.declared.ask.Ask.TheVariants as ask
 use Rattle.mx_ask.specs.declared.ask.Who.{Who}
 use Rattle.mx_api.specs.Bodies.{posted}
 use Rattle.mx_api.specs.Calls.{asked_by, request}
-use Rattle.mx_api.specs.Parts.{asked_of, two_parts}
+use Rattle.mx_api.specs.Parts.{asked_of}
 use Rattle.mx_api.specs.declared.asked.Asked.{Asked}
 use Rattle.mx_api.specs.declared.asked.Asked.TheVariants as asked
 use Rattle.mx_api.specs.declared.refused.Field.TheVariants as field
 use Rattle.mx_api.specs.declared.refused.Refused.TheVariants as refused
 use Rattle.mx_api_room.specs.declared.membership.Change.{Change}
 use Rattle.mx_api_room.specs.declared.membership.Change.TheVariants as change
+use Rattle.mx_api_room.specs.declared.membership.OwnChange.{OwnChange}
+use Rattle.mx_api_room.specs.declared.membership.OwnChange.TheVariants as own
 
--- the room that a path of two parts names
-abbrev pub room_of : List (List ℕ) → Option (List ℕ)
-room_of parts = option_map (λ p. p.0) (two_parts parts)
+abbrev pub own_by : OwnChange → Who → List ℕ → Option (List ℕ) → Asked
+own_by own.Join who room reason = request who (ask.Join room reason)
+own_by own.Leave who room reason = request who (ask.Leave room reason)
 
--- POST /join/{roomId}, POST /rooms/{roomId}/join
-unfoldable pub join_asked : Who → Option (List ℕ) → List ℕ → Asked
-join_asked who room body = asked_of (λ r. asked_by (λ j. request who (ask.Join r (text_at (codes "reason") j))) (posted body)) room
-
--- POST /rooms/{roomId}/leave
-unfoldable pub leave_asked : Who → Option (List ℕ) → List ℕ → Asked
-leave_asked who room body = asked_of (λ r. asked_by (λ j. request who (ask.Leave r (text_at (codes "reason") j))) (posted body)) room
+-- POST /join/{roomId}, POST /rooms/{roomId}/join, POST /rooms/{roomId}/leave
+unfoldable pub own_asked : OwnChange → Who → Option (List ℕ) → List ℕ → Asked
+own_asked change who room body = asked_of (λ r. asked_by (λ j. own_by change who r (text_at (codes "reason") j)) (posted body)) room
 
 abbrev pub ask_of : Change → List ℕ → List ℕ → Option (List ℕ) → Ask
 ask_of change.Invite room user reason = ask.Invite room user reason

@@ -2,11 +2,11 @@
 ghost use Rattle.std.specs.Prelude.{◌≡◌, IfOk, Some, codes};
 ghost use Rattle.mx_json.specs.Fields.{text_at};
 ghost use Rattle.mx_api.specs.Calls.{IsAsked};
-ghost use Rattle.mx_api_room.specs.Membership.{change_asked, join_asked, leave_asked, named_asked, room_of};
+ghost use Rattle.mx_api_room.specs.Membership.{change_asked, named_asked, own_asked, own_by};
 
-use mx_api::{Asked, Field, Refused, post_body, text_field, two_parts};
+use mx_api::{Asked, Field, Refused, post_body, text_field};
 use mx_ask::{Ask, Request, Who};
-use mx_ids::{Memory, Seq, Text};
+use mx_ids::{Memory, Text};
 use mx_json::Json;
 use std::alloc::Global;
 
@@ -19,23 +19,23 @@ pub(crate) enum Change {
     Unban,
 }
 
-/// The room that a path of two parts names.
-pub(crate) fn room_of(parts: Seq<Text>) -> Option<Text>
-    ensures { result ≡ room_of parts }
-{
-    let (room, _) = two_parts(parts)?;
-    Some(room)
+/// A change of the caller's own membership.
+#[derive(Clone, Copy, Debug, PartialEq, Eq)]
+pub(crate) enum OwnChange {
+    Join,
+    Leave,
 }
 
-/// To join a room (Client-Server API, Joining rooms).
-#[tactic(auto, unfolding(crate::specs::Membership::join_asked))]
-pub(crate) fn join(
+/// To join or leave a room (Client-Server API, Joining rooms, Leaving rooms).
+#[tactic(auto, unfolding(crate::specs::Membership::own_asked))]
+pub(crate) fn change_own(
     alloc: Global,
+    change: OwnChange,
     who: Who,
     room: Option<Text>,
     body: &[u8],
 ) -> Result<Asked, Memory>
-    ensures asked { IfOk result (λ asked. asked ≡ join_asked who room body.now) }
+    ensures asked { IfOk result (λ asked. asked ≡ own_asked change who room body.now) }
     ensures sound { IfOk result (λ asked. IsAsked asked) }
 {
     let Some(room) = room else {
@@ -44,34 +44,26 @@ pub(crate) fn join(
     match post_body(alloc, body)? {
         Ok(body) => {
             let reason = text_field(alloc, &body, "reason")?;
-            let ask = Ask::Join { room, reason };
-            Ok(Asked::Request(Request { who, ask }))
+            Ok(of_caller(change, who, room, reason))
         }
         Err(refused) => Ok(Asked::Refused(refused)),
     }
 }
 
-/// To leave a room (Client-Server API, Leaving rooms).
-#[tactic(auto, unfolding(crate::specs::Membership::leave_asked))]
-pub(crate) fn leave(
-    alloc: Global,
-    who: Who,
-    room: Option<Text>,
-    body: &[u8],
-) -> Result<Asked, Memory>
-    ensures asked { IfOk result (λ asked. asked ≡ leave_asked who room body.now) }
-    ensures sound { IfOk result (λ asked. IsAsked asked) }
+/// A change of the caller.
+fn of_caller(change: OwnChange, who: Who, room: Text, reason: Option<Text>) -> Asked
+    ensures asked { result ≡ own_by change who room reason }
+    ensures sound { IsAsked result }
 {
-    let Some(room) = room else {
-        return Ok(Asked::Refused(Refused::BadPath));
-    };
-    match post_body(alloc, body)? {
-        Ok(body) => {
-            let reason = text_field(alloc, &body, "reason")?;
-            let ask = Ask::Leave { room, reason };
-            Ok(Asked::Request(Request { who, ask }))
-        }
-        Err(refused) => Ok(Asked::Refused(refused)),
+    match change {
+        OwnChange::Join => Asked::Request(Request {
+            who,
+            ask: Ask::Join { room, reason },
+        }),
+        OwnChange::Leave => Asked::Request(Request {
+            who,
+            ask: Ask::Leave { room, reason },
+        }),
     }
 }
 

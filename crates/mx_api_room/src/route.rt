@@ -1,8 +1,11 @@
 //! The routes on rooms.
-ghost use Rattle.std.specs.Prelude.{◌≡◌};
-ghost use Rattle.mx_api_room.specs.Routes.{has_method, path_of};
 
-use mx_api::RoutePath;
+use crate::creation::create;
+use crate::events::{redact, send, state, state_at_key};
+use crate::membership::{Change, OwnChange, change_member, change_own};
+use mx_api::{Asked, Authenticated, Endpoint, one_part, room_of};
+use mx_ids::Memory;
+use std::alloc::Global;
 
 /// A route, by its path.
 #[derive(Clone, Copy, Drop)]
@@ -52,10 +55,15 @@ pub(crate) const ROUTES: [Route; 13] = [
     Route::Unban,
 ];
 
-impl RoutePath for Route {
-    ghost use Rattle.mx_api_room.specs.Routes.{path_of};
+impl Endpoint for Route {
+    ghost use Rattle.mx_api_room.specs.Asked.{route_asked};
+    ghost use Rattle.mx_api_room.specs.Routes.{has_method, path_of};
 
     ghost path = { path_of };
+
+    ghost has_method = { has_method };
+
+    ghost asks = { route_asked };
 
     fn path(self) -> &'static str {
         match self {
@@ -74,13 +82,8 @@ impl RoutePath for Route {
             Route::Unban => "/_matrix/client/v3/rooms/{roomId}/unban",
         }
     }
-}
 
-impl Route {
-    /// Whether the path has a method.
-    pub(crate) fn has_method(self, method: &str) -> bool
-        ensures { result ≡ has_method self method.now }
-    {
+    fn has_method(self, method: &str) -> bool {
         match self {
             Route::StateAtKey | Route::StateAtEmptyKey | Route::State => {
                 method == "PUT" || method == "GET"
@@ -94,6 +97,71 @@ impl Route {
             | Route::Kick
             | Route::Ban
             | Route::Unban => method == "POST",
+        }
+    }
+
+    fn ask(
+        self,
+        alloc: Global,
+        method: &str,
+        body: &[u8],
+        caller: Authenticated,
+    ) -> Result<Asked, Memory> {
+        match self {
+            Route::CreateRoom => create(alloc, caller, body),
+            Route::Send => send(alloc, caller, body),
+            Route::StateAtKey | Route::StateAtEmptyKey => state_at_key(alloc, method, caller, body),
+            Route::State => state(alloc, method, caller, body),
+            Route::Redact => redact(alloc, caller, body),
+            Route::JoinById => change_own(
+                alloc,
+                OwnChange::Join,
+                caller.who,
+                one_part(caller.parts),
+                body,
+            ),
+            Route::Join => change_own(
+                alloc,
+                OwnChange::Join,
+                caller.who,
+                room_of(caller.parts),
+                body,
+            ),
+            Route::Leave => change_own(
+                alloc,
+                OwnChange::Leave,
+                caller.who,
+                room_of(caller.parts),
+                body,
+            ),
+            Route::Invite => change_member(
+                alloc,
+                Change::Invite,
+                caller.who,
+                room_of(caller.parts),
+                body,
+            ),
+            Route::Kick => change_member(
+                alloc,
+                Change::Kick,
+                caller.who,
+                room_of(caller.parts),
+                body,
+            ),
+            Route::Ban => change_member(
+                alloc,
+                Change::Ban,
+                caller.who,
+                room_of(caller.parts),
+                body,
+            ),
+            Route::Unban => change_member(
+                alloc,
+                Change::Unban,
+                caller.who,
+                room_of(caller.parts),
+                body,
+            ),
         }
     }
 }

@@ -1,15 +1,12 @@
 -- What a call on a user's own data asks, or the first refusal.
-use Rattle.std.specs.Prelude.{ℕ, List, true, false, Option, Some, None, option_map, if◌then◌else◌}
-use Rattle.matchit.specs.Seek.{first}
+use Rattle.std.specs.Prelude.{ℕ, List, true, false}
 use Rattle.mx_ids.specs.declared.users.Users.{Users}
-use Rattle.mx_http.specs.Queries.{path_of}
 use Rattle.mx_http.specs.declared.call.Call.{Call}
 use Rattle.mx_ask.specs.declared.ask.Ask.TheVariants as ask
-use Rattle.mx_api.specs.Calls.{asked_by, authenticated, request}
+use Rattle.mx_api.specs.Calls.{request}
+use Rattle.mx_api.specs.Endpoints.{asked_at}
 use Rattle.mx_api.specs.declared.asked.Asked.{Asked}
-use Rattle.mx_api.specs.declared.asked.Asked.TheVariants as asked
 use Rattle.mx_api.specs.declared.authenticated.Authenticated.{Authenticated}
-use Rattle.mx_api.specs.declared.refused.Refused.TheVariants as refused
 use Rattle.mx_api_user.specs.Account.{account_asked, room_account_asked}
 use Rattle.mx_api_user.specs.Filters.{get_filter_asked, put_filter_asked}
 use Rattle.mx_api_user.specs.Routes.{has_method, table}
@@ -35,11 +32,6 @@ route_asked route.Rule method body call = rule_asked method call body
 route_asked route.Enabled method body call = enabled_asked method call body
 route_asked route.Actions method body call = actions_asked method call body
 
-abbrev pub asked_on : Users → Call → Option Route → Asked
-asked_on users call None = asked.NoRoute
-asked_on users call (Some route) =
-    if has_method route call.method then asked_by (route_asked route call.method call.body) (authenticated users call) else asked.Refused refused.NoMethod
-
 -- what a call asks by the route that its path finds, or the first refusal
 unfoldable pub user_asked : Users → Call → Asked
-user_asked users call = asked_on users call (option_map (λ row. row.value) (first table (path_of call.target)))
+user_asked users call = asked_at has_method route_asked table users call

@@ -1,5 +1,5 @@
 -- The filter of a sync, and stored filters (Client-Server API, Filtering).
-use Rattle.std.specs.Prelude.{ℕ, ◌==◌, List, [], ◌∷◌, Bool, false, Option, Some, None, Result, Ok, Err, if◌then◌else◌}
+use Rattle.std.specs.Prelude.{ℕ, List, Option, Some, None, Result, Ok, Err, if◌then◌else◌}
 use Rattle.mx_json.specs.declared.value.Json.{Json}
 use Rattle.mx_filter.specs.Fields.{is_federation, wrong_filter}
 use Rattle.mx_filter.specs.Filters.{filter_of}
@@ -10,17 +10,13 @@ use Rattle.mx_ask.specs.declared.ask.Who.{Who}
 use Rattle.mx_api.specs.Bodies.{json_of, posted}
 use Rattle.mx_api.specs.Calls.{and_then, asked_by, request}
 use Rattle.mx_api.specs.Parts.{asked_of, three_parts, two_parts}
+use Rattle.mx_api.specs.Queries.{begins_object}
 use Rattle.mx_api.specs.declared.asked.Asked.{Asked}
 use Rattle.mx_api.specs.declared.authenticated.Authenticated.{Authenticated}
 use Rattle.mx_api.specs.declared.refused.Field.TheVariants as fields
 use Rattle.mx_api.specs.declared.refused.Refused.{Refused}
 use Rattle.mx_api.specs.declared.refused.Refused.TheVariants as refused
 use Rattle.mx_api_user.specs.Parts.{of_caller}
-
--- a filter that is JSON begins with `{`
-abbrev pub begins_object : List ℕ → Bool
-begins_object [] = false
-begins_object (c ∷ cs) = c == 123
 
 -- the filter that a value describes, by its first field of the wrong type
 abbrev pub unless_wrong : Json → Option (List ℕ) → Result FilterAsk Refused

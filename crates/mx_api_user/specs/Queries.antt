@@ -5,11 +5,10 @@ use Rattle.std.specs.Option.{is_some}
 use Rattle.std.specs.Str.{bytes_eq}
 use Rattle.mx_ids.specs.declared.sync_token.SyncToken.{SyncToken}
 use Rattle.mx_http.specs.Queries.{parameter}
-use Rattle.mx_api.specs.Queries.{first_wrong, is_number, is_wrong}
+use Rattle.mx_api.specs.Queries.{begins_object, first_wrong, is_number, is_wrong}
 use Rattle.mx_api.specs.Tokens.{sync_token_of}
 use Rattle.mx_api.specs.declared.refused.Parameter.{Parameter}
 use Rattle.mx_api.specs.declared.refused.Parameter.TheVariants as name
-use Rattle.mx_api_user.specs.Filters.{begins_object}
 
 abbrev pub is_token : List ℕ → Bool
 is_token value = is_some (sync_token_of value)

@@ -51,7 +51,7 @@ abbrev pub rule_put : Who → Kind × List ℕ → List (List ℕ × List ℕ) �
 rule_put who rule query body = request who (ask.PutRule rule.0 rule.1 body (parameter (codes "before") query) (parameter (codes "after") query))
 
 -- what a method asks of a rule: to read it, to take it away, or to put an object
-unfoldable pub rule_by : List ℕ → Who → List (List ℕ × List ℕ) → List ℕ → Kind × List ℕ → Asked
+abbrev pub rule_by : List ℕ → Who → List (List ℕ × List ℕ) → List ℕ → Kind × List ℕ → Asked
 rule_by method who query body rule =
     if bytes_eq method (codes "GET") then request who (ask.GetRule rule.0 rule.1)
     else (if bytes_eq method (codes "DELETE") then request who (ask.DeleteRule rule.0 rule.1)
@@ -70,7 +70,7 @@ abbrev pub enabled_put : Who → Kind × List ℕ → Option Bool → Asked
 enabled_put who rule None = asked.Refused (refused.BadShape fields.Enabled)
 enabled_put who rule (Some on) = request who (ask.PutEnabled rule.0 rule.1 on)
 
-unfoldable pub enabled_by : List ℕ → Who → List ℕ → Kind × List ℕ → Asked
+abbrev pub enabled_by : List ℕ → Who → List ℕ → Kind × List ℕ → Asked
 enabled_by method who body rule =
     if bytes_eq method (codes "GET") then request who (ask.GetEnabled rule.0 rule.1)
     else asked_by (λ content. enabled_put who rule (enabled_in content)) (object_of body)
@@ -80,7 +80,7 @@ enabled_asked method call body = asked_of (enabled_by method call.who body) (rul
 
 -- ---- GET and PUT /pushrules/global/{kind}/{ruleId}/actions
 
-unfoldable pub actions_by : List ℕ → Who → List ℕ → Kind × List ℕ → Asked
+abbrev pub actions_by : List ℕ → Who → List ℕ → Kind × List ℕ → Asked
 actions_by method who body rule =
     if bytes_eq method (codes "GET") then request who (ask.GetActions rule.0 rule.1)
     else asked_by (λ content. request who (ask.PutActions rule.0 rule.1 content)) (object_of body)

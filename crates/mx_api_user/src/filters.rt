@@ -1,10 +1,13 @@
 //! The filter of a sync, and stored filters.
 ghost use Rattle.std.specs.Prelude.{◌≡◌, IfOk, option_map};
 ghost use Rattle.mx_api.specs.Calls.{IsAsked};
-ghost use Rattle.mx_api_user.specs.Filters.{begins_object, filter_asked, filter_put, get_filter_asked, inline_in, put_filter_asked};
+ghost use Rattle.mx_api_user.specs.Filters.{filter_asked, filter_put, get_filter_asked, inline_in, put_filter_asked};
 
 use crate::parts::is_caller;
-use mx_api::{Asked, Authenticated, Field, Refused, json_value, post_body, three_parts, two_parts};
+use mx_api::{
+    Asked, Authenticated, Field, Refused, begins_object, json_value, post_body, three_parts,
+    two_parts,
+};
 use mx_ask::{Ask, FilterAsk, Request, Who};
 use mx_filter::{FilterFault, read};
 use mx_ids::{Copied, Memory, Text};
@@ -31,16 +34,6 @@ pub(crate) fn filter_asked(
     match json_value(alloc, text.as_str().as_bytes())? {
         Ok(json) => inline_filter(alloc, &json),
         Err(refused) => Ok(Err(refused)),
-    }
-}
-
-/// Whether the text begins with `{`.
-pub(crate) fn begins_object(value: &[u8]) -> bool
-    ensures { result ≡ begins_object value.now }
-{
-    match value {
-        [first, ..] => *first == b'{',
-        [] => false,
     }
 }
 

@@ -1,8 +1,14 @@
 //! The routes on a user's own data.
-ghost use Rattle.std.specs.Prelude.{◌≡◌};
-ghost use Rattle.mx_api_user.specs.Routes.{has_method, path_of};
 
-use mx_api::RoutePath;
+use crate::account::{account, room_account};
+use crate::filters::{get_filter, put_filter};
+use crate::rules::{actions, all_rules, enabled, rule};
+use crate::sync::sync;
+use crate::tags::{tag, tags};
+use mx_api::{Asked, Authenticated, Endpoint};
+use mx_ask::{Ask, Request};
+use mx_ids::Memory;
+use std::alloc::Global;
 
 /// A route, by its path.
 #[derive(Clone, Copy, Drop)]
@@ -52,10 +58,15 @@ pub(crate) const ROUTES: [Route; 13] = [
     Route::Actions,
 ];
 
-impl RoutePath for Route {
-    ghost use Rattle.mx_api_user.specs.Routes.{path_of};
+impl Endpoint for Route {
+    ghost use Rattle.mx_api_user.specs.Asked.{route_asked};
+    ghost use Rattle.mx_api_user.specs.Routes.{has_method, path_of};
 
     ghost path = { path_of };
+
+    ghost has_method = { has_method };
+
+    ghost asks = { route_asked };
 
     fn path(self) -> &'static str {
         match self {
@@ -76,13 +87,8 @@ impl RoutePath for Route {
             Route::Actions => "/_matrix/client/v3/pushrules/global/{kind}/{ruleId}/actions",
         }
     }
-}
 
-impl Route {
-    /// Whether the path has a method.
-    pub(crate) fn has_method(self, method: &str) -> bool
-        ensures { result ≡ has_method self method.now }
-    {
+    fn has_method(self, method: &str) -> bool {
         match self {
             Route::WhoAmI
             | Route::Sync
@@ -96,6 +102,33 @@ impl Route {
             }
             Route::Tag => method == "PUT" || method == "DELETE",
             Route::Rule => method == "GET" || method == "PUT" || method == "DELETE",
+        }
+    }
+
+    fn ask(
+        self,
+        alloc: Global,
+        method: &str,
+        body: &[u8],
+        caller: Authenticated,
+    ) -> Result<Asked, Memory> {
+        match self {
+            Route::WhoAmI => Ok(Asked::Request(Request {
+                who: caller.who,
+                ask: Ask::WhoAmI,
+            })),
+            Route::Sync => sync(alloc, caller),
+            Route::Filters => put_filter(alloc, caller, body),
+            Route::Filter => Ok(get_filter(caller)),
+            Route::AccountData => account(alloc, method, caller, body),
+            Route::RoomAccountData => room_account(alloc, method, caller, body),
+            Route::Tags => Ok(tags(caller)),
+            Route::Tag => tag(alloc, method, caller, body),
+            Route::PushRules => Ok(all_rules(caller.who, false)),
+            Route::GlobalRules => Ok(all_rules(caller.who, true)),
+            Route::Rule => rule(alloc, method, caller, body),
+            Route::Enabled => enabled(alloc, method, caller, body),
+            Route::Actions => actions(alloc, method, caller, body),
         }
     }
 }

@@ -1,14 +1,12 @@
 //! Push rules.
 ghost use Rattle.std.specs.Prelude.{◌≡◌, IfOk};
-ghost use Rattle.mx_http.specs.Queries.{parameter};
 ghost use Rattle.mx_api.specs.Calls.{IsAsked};
-ghost use Rattle.mx_api_user.specs.Rules.{actions_asked, actions_by, enabled_asked, enabled_by, enabled_in, enabled_put, rule_asked, rule_by, rule_put, rules_asked};
+ghost use Rattle.mx_api_user.specs.Rules.{actions_asked, enabled_asked, enabled_in, enabled_put, rule_asked, rule_put, rules_asked};
 
 use crate::rule_names::{rule_of_four, rule_of_three};
-use mx_api::{Asked, Authenticated, Field, Refused, object_body};
+use mx_api::{Asked, Authenticated, Field, Refused, object_body, value_at};
 use mx_ask::{Ask, Request, Who};
-use mx_http::parameter;
-use mx_ids::{Copied, Memory, Text};
+use mx_ids::{Memory, Text};
 use mx_json::Json;
 use mx_rules::Kind;
 use std::alloc::Global;
@@ -22,7 +20,7 @@ pub(crate) fn all_rules(who: Who, inner: bool) -> Asked
     Asked::Request(Request { who, ask })
 }
 
-/// A push rule, by the method (Client-Server API, Push Rules: API).
+/// To read, remove or put a push rule, by the method (Client-Server API, Push Rules: API).
 #[tactic(auto, unfolding(crate::specs::Rules::rule_asked))]
 pub(crate) fn rule(
     alloc: Global,
@@ -33,27 +31,11 @@ pub(crate) fn rule(
     ensures asked { IfOk result (λ asked. asked ≡ rule_asked method.now call body.now) }
     ensures sound { IfOk result (λ asked. IsAsked asked) }
 {
+    let who = call.who;
     let query = call.query;
-    match rule_of_three(call.parts) {
-        Some(rule) => rule_by(alloc, method, call.who, query.as_slice(), body, rule),
-        None => Ok(Asked::Refused(Refused::BadPath)),
-    }
-}
-
-/// To read, remove or put a rule, by the method.
-#[tactic(auto, unfolding(crate::specs::Rules::rule_by))]
-fn rule_by(
-    alloc: Global,
-    method: &str,
-    who: Who,
-    query: &[(Text, Text)],
-    body: &[u8],
-    rule: (Kind, Text),
-) -> Result<Asked, Memory>
-    ensures asked { IfOk result (λ asked. asked ≡ rule_by method.now who query.now body.now rule) }
-    ensures sound { IfOk result (λ asked. IsAsked asked) }
-{
-    let (kind, id) = rule;
+    let Some((kind, id)) = rule_of_three(call.parts) else {
+        return Ok(Asked::Refused(Refused::BadPath));
+    };
     if method == "GET" {
         let ask = Ask::GetRule { kind, id };
         return Ok(Asked::Request(Request { who, ask }));
@@ -63,7 +45,7 @@ fn rule_by(
         return Ok(Asked::Request(Request { who, ask }));
     }
     match object_body(alloc, body)? {
-        Ok(body) => put_rule(alloc, who, (kind, id), query, body),
+        Ok(body) => put_rule(alloc, who, (kind, id), query.as_slice(), body),
         Err(refused) => Ok(Asked::Refused(refused)),
     }
 }
@@ -92,17 +74,7 @@ fn put_rule(
     Ok(Asked::Request(Request { who, ask }))
 }
 
-/// The value of the first parameter of a name.
-fn value_at(alloc: Global, query: &[(Text, Text)], name: &str) -> Result<Option<Text>, Memory>
-    ensures { IfOk result (λ value. value ≡ parameter name.now query.now) }
-{
-    match parameter(query, name) {
-        Some(value) => Ok(Some(value.copy(alloc)?)),
-        None => Ok(None),
-    }
-}
-
-/// Whether a push rule is enabled, by the method (Client-Server API, Push Rules: API).
+/// To read or set whether a push rule is enabled, by the method (Client-Server API, Push Rules: API).
 #[tactic(auto, unfolding(crate::specs::Rules::enabled_asked))]
 pub(crate) fn enabled(
     alloc: Global,
@@ -113,25 +85,10 @@ pub(crate) fn enabled(
     ensures asked { IfOk result (λ asked. asked ≡ enabled_asked method.now call body.now) }
     ensures sound { IfOk result (λ asked. IsAsked asked) }
 {
-    match rule_of_four(call.parts) {
-        Some(rule) => enabled_by(alloc, method, call.who, body, rule),
-        None => Ok(Asked::Refused(Refused::BadPath)),
-    }
-}
-
-/// To read or set whether a rule is enabled, by the method.
-#[tactic(auto, unfolding(crate::specs::Rules::enabled_by))]
-fn enabled_by(
-    alloc: Global,
-    method: &str,
-    who: Who,
-    body: &[u8],
-    rule: (Kind, Text),
-) -> Result<Asked, Memory>
-    ensures asked { IfOk result (λ asked. asked ≡ enabled_by method.now who body.now rule) }
-    ensures sound { IfOk result (λ asked. IsAsked asked) }
-{
-    let (kind, id) = rule;
+    let who = call.who;
+    let Some((kind, id)) = rule_of_four(call.parts) else {
+        return Ok(Asked::Refused(Refused::BadPath));
+    };
     if method == "GET" {
         let ask = Ask::GetEnabled { kind, id };
         return Ok(Asked::Request(Request { who, ask }));
@@ -162,7 +119,8 @@ fn put_enabled(who: Who, rule: (Kind, Text), on: Option<bool>) -> Asked
     Asked::Request(Request { who, ask })
 }
 
-/// The actions of a push rule, by the method (Client-Server API, Push Rules: API).
+/// To read or set the actions of a push rule, by the method (Client-Server API, Push Rules: API). The body of a put is an
+/// object, whose key `actions` isn't judged here.
 #[tactic(auto, unfolding(crate::specs::Rules::actions_asked))]
 pub(crate) fn actions(
     alloc: Global,
@@ -173,25 +131,10 @@ pub(crate) fn actions(
     ensures asked { IfOk result (λ asked. asked ≡ actions_asked method.now call body.now) }
     ensures sound { IfOk result (λ asked. IsAsked asked) }
 {
-    match rule_of_four(call.parts) {
-        Some(rule) => actions_by(alloc, method, call.who, body, rule),
-        None => Ok(Asked::Refused(Refused::BadPath)),
-    }
-}
-
-/// To read or set the actions of a rule, by the method. The body of a put is an object, whose key `actions` isn't judged here.
-#[tactic(auto, unfolding(crate::specs::Rules::actions_by))]
-fn actions_by(
-    alloc: Global,
-    method: &str,
-    who: Who,
-    body: &[u8],
-    rule: (Kind, Text),
-) -> Result<Asked, Memory>
-    ensures asked { IfOk result (λ asked. asked ≡ actions_by method.now who body.now rule) }
-    ensures sound { IfOk result (λ asked. IsAsked asked) }
-{
-    let (kind, id) = rule;
+    let who = call.who;
+    let Some((kind, id)) = rule_of_four(call.parts) else {
+        return Ok(Asked::Refused(Refused::BadPath));
+    };
     if method == "GET" {
         let ask = Ask::GetActions { kind, id };
         return Ok(Asked::Request(Request { who, ask }));

@@ -4,8 +4,7 @@ ghost use Rattle.std.specs.List.{list_all};
 ghost use Rattle.mx_api.specs.Queries.{is_number, is_wrong};
 ghost use Rattle.mx_api_user.specs.Queries.{first_bad, is_filter, is_full, is_token, is_truth, is_zero, since_in};
 
-use crate::filters::begins_object;
-use mx_api::{Parameter, first_wrong, number_within, sync_token_of};
+use mx_api::{Parameter, begins_object, first_wrong, number_within, sync_token_of};
 use mx_http::parameter;
 use mx_ids::{SyncToken, Text};
 

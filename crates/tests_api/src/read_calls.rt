@@ -1,54 +1,29 @@
 //! What calls that read rooms ask.
-use crate::make::{at, call, json, list, users};
+use crate::asking::{Routes, all_ask};
 use crate::read_asks::is_read_ask;
-use crate::told::told;
 use mx_api::Asked;
 use mx_api_reads::{ReadRoutes, ask_read, read_routes};
+use mx_ask::Ask;
+use mx_http::Call;
+use mx_ids::Memory;
 use mx_json::Json;
 use mx_users::Directory;
 use std::alloc::Global;
-use std::mem;
 use std::process::Abort;
 
-fn asked(
-    rt: &impl Abort,
-    alloc: Global,
-    routes: &ReadRoutes,
-    users: &Directory,
-    row: &Json,
-) -> Asked {
-    let call = call(rt, alloc, row);
-    ask_read(alloc, routes, &call, users).expect(rt, "memory")
-}
-
-fn is_told(rt: &impl Abort, alloc: Global, row: &Json, asked: &Asked) -> bool {
-    match told(rt, alloc, row, asked) {
-        Ok(ask) => is_read_ask(rt, row, ask),
-        Err(is_refused) => is_refused,
+impl Routes for ReadRoutes {
+    fn ask(&self, alloc: Global, call: &Call, users: &Directory) -> Result<Asked, Memory> {
+        ask_read(alloc, self, call, users)
     }
-}
 
-/// Whether the call of a row asks what the row says.
-fn asks(
-    rt: &impl Abort,
-    alloc: Global,
-    routes: &ReadRoutes,
-    users: &Directory,
-    row: &Json,
-) -> bool {
-    let asked = asked(rt, alloc, routes, users, row);
-    let is_so = is_told(rt, alloc, at(rt, row, 4), &asked);
-    // (the proof of its drop takes minutes, and no test is about it)
-    mem::forget(asked);
-    is_so
+    fn is_ask<A: Abort>(rt: &A, row: &Json, ask: &Ask) -> bool {
+        is_read_ask(rt, row, ask)
+    }
 }
 
 #[test]
 fn the_first_refusal_is_told_in_order(rt: HostRuntime) {
-    let rows = json(
-        &rt,
-        rt.alloc(),
-        r#"[
+    let rows = r#"[
         ["GET", "/rooms/r", "secret", "", null],
         ["GET", "/rooms/r/state/a", "secret", "", null],
         ["GET", "/rooms//members", "secret", "", null],
@@ -58,21 +33,14 @@ fn the_first_refusal_is_told_in_order(rt: HostRuntime) {
         ["POST", "/rooms/r/receipt/m.other/e", "secret", "x", [400, "M_INVALID_PARAM", "invalid parameter: path"]],
         ["POST", "/rooms/r/receipt/m.read/e", "secret", "x", [400, "M_NOT_JSON", "not JSON"]],
         ["POST", "/rooms/r/receipt/m.read/e", "secret", "[]", [400, "M_BAD_JSON", "bad JSON: body"]]
-    ]"#,
-    );
-    let users = users(&rt, rt.alloc());
+    ]"#;
     let routes = read_routes(rt.alloc()).expect(&rt, "routes");
-    for row in list(&rt, &rows) {
-        assert!(&rt; asks(&rt, rt.alloc(), &routes, &users, row));
-    }
+    all_ask(&rt, rt.alloc(), &routes, rows);
 }
 
 #[test]
 fn the_parameters_of_a_page_are_judged_in_order(rt: HostRuntime) {
-    let rows = json(
-        &rt,
-        rt.alloc(),
-        r#"[
+    let rows = r#"[
         ["GET", "/rooms/r/messages?from=x", "secret", "", [400, "M_MISSING_PARAM", "missing parameter: dir"]],
         ["GET", "/rooms/r/messages?dir=x", "secret", "", [400, "M_INVALID_PARAM", "invalid parameter: dir"]],
         ["GET", "/rooms/r/messages?from=x&dir=x", "secret", "", [400, "M_INVALID_PARAM", "invalid parameter: from"]],
@@ -90,21 +58,14 @@ fn the_parameters_of_a_page_are_judged_in_order(rt: HostRuntime) {
         ["GET", "/rooms/r/messages?dir=b&limit=0007&from=p3_4", "secret", "", ["page", "r", "b", "p3", "none", "7", "all"]],
         ["GET", "/rooms/r/messages?dir=b&limit=18446744073709551623", "secret", "", ["page", "r", "b", "none", "none", "1000", "all"]],
         ["GET", "/rooms/r/messages?dir=b&other=x&filter={\"lazy_load_members\":true}", "secret", "", ["page", "r", "b", "none", "none", "10", "lazy"]]
-    ]"#,
-    );
-    let users = users(&rt, rt.alloc());
+    ]"#;
     let routes = read_routes(rt.alloc()).expect(&rt, "routes");
-    for row in list(&rt, &rows) {
-        assert!(&rt; asks(&rt, rt.alloc(), &routes, &users, row));
-    }
+    all_ask(&rt, rt.alloc(), &routes, rows);
 }
 
 #[test]
 fn a_call_that_reads_asks(rt: HostRuntime) {
-    let rows = json(
-        &rt,
-        rt.alloc(),
-        r#"[
+    let rows = r#"[
         ["GET", "/joined_rooms", "secret", "x", ["joined"]],
         ["GET", "/rooms/%21r/state", "secret", "", ["all", "!r"]],
         ["GET", "/rooms/r/members", "secret", "", ["members", "r", "none", "none"]],
@@ -113,11 +74,7 @@ fn a_call_that_reads_asks(rt: HostRuntime) {
         ["POST", "/rooms/r/receipt/m.read/e", "secret", "", ["receipt", "r", "read", "e"]],
         ["POST", "/rooms/r/receipt/m.read.private/e", "secret", "{}", ["receipt", "r", "private", "e"]],
         ["POST", "/rooms/r/receipt/m.fully_read/e", "secret", "{}", ["receipt", "r", "fully", "e"]]
-    ]"#,
-    );
-    let users = users(&rt, rt.alloc());
+    ]"#;
     let routes = read_routes(rt.alloc()).expect(&rt, "routes");
-    for row in list(&rt, &rows) {
-        assert!(&rt; asks(&rt, rt.alloc(), &routes, &users, row));
-    }
+    all_ask(&rt, rt.alloc(), &routes, rows);
 }

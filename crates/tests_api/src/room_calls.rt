@@ -1,54 +1,29 @@
 //! What calls on rooms ask.
-use crate::make::{at, call, json, list, users};
+use crate::asking::{Routes, all_ask};
 use crate::room_asks::is_room_ask;
-use crate::told::told;
 use mx_api::Asked;
 use mx_api_room::{RoomRoutes, ask_room, room_routes};
+use mx_ask::Ask;
+use mx_http::Call;
+use mx_ids::Memory;
 use mx_json::Json;
 use mx_users::Directory;
 use std::alloc::Global;
-use std::mem;
 use std::process::Abort;
 
-fn asked(
-    rt: &impl Abort,
-    alloc: Global,
-    routes: &RoomRoutes,
-    users: &Directory,
-    row: &Json,
-) -> Asked {
-    let call = call(rt, alloc, row);
-    ask_room(alloc, routes, &call, users).expect(rt, "memory")
-}
-
-fn is_told(rt: &impl Abort, alloc: Global, row: &Json, asked: &Asked) -> bool {
-    match told(rt, alloc, row, asked) {
-        Ok(ask) => is_room_ask(rt, row, ask),
-        Err(is_refused) => is_refused,
+impl Routes for RoomRoutes {
+    fn ask(&self, alloc: Global, call: &Call, users: &Directory) -> Result<Asked, Memory> {
+        ask_room(alloc, self, call, users)
     }
-}
 
-/// Whether the call of a row asks what the row says.
-fn asks(
-    rt: &impl Abort,
-    alloc: Global,
-    routes: &RoomRoutes,
-    users: &Directory,
-    row: &Json,
-) -> bool {
-    let asked = asked(rt, alloc, routes, users, row);
-    let is_so = is_told(rt, alloc, at(rt, row, 4), &asked);
-    // (the proof of its drop takes minutes, and no test is about it)
-    mem::forget(asked);
-    is_so
+    fn is_ask<A: Abort>(rt: &A, row: &Json, ask: &Ask) -> bool {
+        is_room_ask(rt, row, ask)
+    }
 }
 
 #[test]
 fn the_first_refusal_is_told_in_order(rt: HostRuntime) {
-    let rows = json(
-        &rt,
-        rt.alloc(),
-        r#"[
+    let rows = r#"[
         ["POST", "/rooms", "secret", "", null],
         ["POST", "/rooms//join", "secret", "", null],
         ["PUT", "/rooms/r/state//k", "secret", "{}", null],
@@ -69,21 +44,14 @@ fn the_first_refusal_is_told_in_order(rt: HostRuntime) {
         ["POST", "/rooms/r/leave", "secret", "1", [400, "M_BAD_JSON", "bad JSON: body"]],
         ["POST", "/rooms/r/invite", "secret", "", [400, "M_BAD_JSON", "bad JSON: user_id"]],
         ["POST", "/rooms/r/ban", "secret", "{\"user_id\":1}", [400, "M_BAD_JSON", "bad JSON: user_id"]]
-    ]"#,
-    );
-    let users = users(&rt, rt.alloc());
+    ]"#;
     let routes = room_routes(rt.alloc()).expect(&rt, "routes");
-    for row in list(&rt, &rows) {
-        assert!(&rt; asks(&rt, rt.alloc(), &routes, &users, row));
-    }
+    all_ask(&rt, rt.alloc(), &routes, rows);
 }
 
 #[test]
 fn a_call_on_a_room_asks(rt: HostRuntime) {
-    let rows = json(
-        &rt,
-        rt.alloc(),
-        r#"[
+    let rows = r#"[
         ["POST", "/createRoom", "secret", "", ["create", "none"]],
         ["POST", "/createRoom", "secret", "{\"body\":\"b\"}", ["create", "b"]],
         ["PUT", "/rooms/%21r/send/m.room.message/t%2F1", "secret", "{\"body\":\"b\"}", ["send", "!r", "m.room.message", "t/1", "!r", "send", "m.room.message", "b"]],
@@ -101,11 +69,7 @@ fn a_call_on_a_room_asks(rt: HostRuntime) {
         ["POST", "/rooms/r/kick", "secret", "{\"user_id\":\"@b:x\",\"reason\":\"why\"}", ["kick", "r", "@b:x", "why"]],
         ["POST", "/rooms/r/ban", "secret", "{\"user_id\":\"@b:x\"}", ["ban", "r", "@b:x", "none"]],
         ["POST", "/rooms/r/unban", "secret", "{\"user_id\":\"@b:x\"}", ["unban", "r", "@b:x", "none"]]
-    ]"#,
-    );
-    let users = users(&rt, rt.alloc());
+    ]"#;
     let routes = room_routes(rt.alloc()).expect(&rt, "routes");
-    for row in list(&rt, &rows) {
-        assert!(&rt; asks(&rt, rt.alloc(), &routes, &users, row));
-    }
+    all_ask(&rt, rt.alloc(), &routes, rows);
 }
