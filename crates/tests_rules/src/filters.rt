@@ -50,6 +50,75 @@ fn the_first_wrong_field_in_the_order_of_paths_is_named(rt: HostRuntime) {
 }
 
 #[test]
+fn each_known_field_has_its_shape(rt: HostRuntime) {
+    let rows = json(
+        &rt,
+        rt.alloc(),
+        r#"[
+        [{"account_data":{"not_senders":"a","limit":"1"}}, "account_data.limit"],
+        [{"account_data":{"not_types":[1],"not_senders":"a"}}, "account_data.not_senders"],
+        [{"account_data":{"senders":{},"not_types":[1]}}, "account_data.not_types"],
+        [{"account_data":{"types":[null],"senders":{}}}, "account_data.senders"],
+        [{"account_data":{"types":[null]}}, "account_data.types"],
+        [{"event_format":1,"event_fields":{}}, "event_fields"],
+        [{"room":[],"event_format":null}, "event_format"],
+        [{"room":[]}, "room"],
+        [{"room":{"ephemeral":1,"account_data":1}}, "room.account_data"],
+        [{"room":{"include_leave":1,"ephemeral":1}}, "room.ephemeral"],
+        [{"room":{"not_rooms":{},"include_leave":null}}, "room.include_leave"],
+        [{"room":{"rooms":1,"not_rooms":[1]}}, "room.not_rooms"],
+        [{"room":{"state":1,"rooms":[1]}}, "room.rooms"],
+        [{"room":{"timeline":1,"state":1}}, "room.state"],
+        [{"room":{"timeline":1}}, "room.timeline"],
+        [{"room":{"account_data":{"include_redundant_members":"true","contains_url":1}}}, "room.account_data.contains_url"],
+        [{"room":{"account_data":{"lazy_load_members":[],"include_redundant_members":"true"}}}, "room.account_data.include_redundant_members"],
+        [{"room":{"account_data":{"limit":"1","lazy_load_members":[]}}}, "room.account_data.lazy_load_members"],
+        [{"room":{"account_data":{"not_rooms":[[]],"limit":"1"}}}, "room.account_data.limit"],
+        [{"room":{"account_data":{"not_senders":"a","not_rooms":[[]]}}}, "room.account_data.not_rooms"],
+        [{"room":{"account_data":{"not_types":[1],"not_senders":"a"}}}, "room.account_data.not_senders"],
+        [{"room":{"account_data":{"rooms":false,"not_types":[1]}}}, "room.account_data.not_types"],
+        [{"room":{"account_data":{"senders":{},"rooms":false}}}, "room.account_data.rooms"],
+        [{"room":{"account_data":{"types":[null],"senders":{}}}}, "room.account_data.senders"],
+        [{"room":{"account_data":{"types":[null]}}}, "room.account_data.types"],
+        [{"room":{"ephemeral":{"include_redundant_members":"true","contains_url":1}}}, "room.ephemeral.contains_url"],
+        [{"room":{"ephemeral":{"lazy_load_members":[],"include_redundant_members":"true"}}}, "room.ephemeral.include_redundant_members"],
+        [{"room":{"ephemeral":{"limit":"1","lazy_load_members":[]}}}, "room.ephemeral.lazy_load_members"],
+        [{"room":{"ephemeral":{"not_rooms":[[]],"limit":"1"}}}, "room.ephemeral.limit"],
+        [{"room":{"ephemeral":{"not_senders":"a","not_rooms":[[]]}}}, "room.ephemeral.not_rooms"],
+        [{"room":{"ephemeral":{"not_types":[1],"not_senders":"a"}}}, "room.ephemeral.not_senders"],
+        [{"room":{"ephemeral":{"rooms":false,"not_types":[1]}}}, "room.ephemeral.not_types"],
+        [{"room":{"ephemeral":{"senders":{},"rooms":false}}}, "room.ephemeral.rooms"],
+        [{"room":{"ephemeral":{"types":[null],"senders":{}}}}, "room.ephemeral.senders"],
+        [{"room":{"ephemeral":{"types":[null]}}}, "room.ephemeral.types"],
+        [{"room":{"state":{"include_redundant_members":"true","contains_url":1}}}, "room.state.contains_url"],
+        [{"room":{"state":{"lazy_load_members":[],"include_redundant_members":"true"}}}, "room.state.include_redundant_members"],
+        [{"room":{"state":{"limit":"1","lazy_load_members":[]}}}, "room.state.lazy_load_members"],
+        [{"room":{"state":{"not_rooms":[[]],"limit":"1"}}}, "room.state.limit"],
+        [{"room":{"state":{"not_senders":"a","not_rooms":[[]]}}}, "room.state.not_rooms"],
+        [{"room":{"state":{"not_types":[1],"not_senders":"a"}}}, "room.state.not_senders"],
+        [{"room":{"state":{"rooms":false,"not_types":[1]}}}, "room.state.not_types"],
+        [{"room":{"state":{"senders":{},"rooms":false}}}, "room.state.rooms"],
+        [{"room":{"state":{"types":[null],"senders":{}}}}, "room.state.senders"],
+        [{"room":{"state":{"types":[null]}}}, "room.state.types"],
+        [{"room":{"timeline":{"include_redundant_members":"true","contains_url":1}}}, "room.timeline.contains_url"],
+        [{"room":{"timeline":{"lazy_load_members":[],"include_redundant_members":"true"}}}, "room.timeline.include_redundant_members"],
+        [{"room":{"timeline":{"limit":"1","lazy_load_members":[]}}}, "room.timeline.lazy_load_members"],
+        [{"room":{"timeline":{"not_rooms":[[]],"limit":"1"}}}, "room.timeline.limit"],
+        [{"room":{"timeline":{"not_senders":"a","not_rooms":[[]]}}}, "room.timeline.not_rooms"],
+        [{"room":{"timeline":{"not_types":[1],"not_senders":"a"}}}, "room.timeline.not_senders"],
+        [{"room":{"timeline":{"rooms":false,"not_types":[1]}}}, "room.timeline.not_types"],
+        [{"room":{"timeline":{"senders":{},"rooms":false}}}, "room.timeline.rooms"],
+        [{"room":{"timeline":{"types":[null],"senders":{}}}}, "room.timeline.senders"],
+        [{"room":{"timeline":{"types":[null]}}}, "room.timeline.types"]
+    ]"#,
+    );
+    for row in list(&rt, &rows) {
+        let fault = read(rt.alloc(), at(&rt, row, 0)).err();
+        assert!(&rt; refusal_is(fault, str_in(&rt, row, 1)));
+    }
+}
+
+#[test]
 fn the_filter_of_a_page_is_one_of_events(rt: HostRuntime) {
     let rows = json(
         &rt,
@@ -59,7 +128,16 @@ fn the_filter_of_a_page_is_one_of_events(rt: HostRuntime) {
         [1, "body"],
         [{"room":1,"event_format":"federation"}, ""],
         [{"types":"a","contains_url":1}, "contains_url"],
-        [{"types":"a"}, "types"]
+        [{"include_redundant_members":"true","contains_url":1}, "contains_url"],
+        [{"lazy_load_members":[],"include_redundant_members":"true"}, "include_redundant_members"],
+        [{"limit":"1","lazy_load_members":[]}, "lazy_load_members"],
+        [{"not_rooms":[[]],"limit":"1"}, "limit"],
+        [{"not_senders":"a","not_rooms":[[]]}, "not_rooms"],
+        [{"not_types":[1],"not_senders":"a"}, "not_senders"],
+        [{"rooms":false,"not_types":[1]}, "not_types"],
+        [{"senders":{},"rooms":false}, "rooms"],
+        [{"types":[null],"senders":{}}, "senders"],
+        [{"types":[null]}, "types"]
     ]"#,
     );
     for row in list(&rt, &rows) {
@@ -113,7 +191,12 @@ fn an_event_passes_by_each_list(rt: HostRuntime) {
         [{"room":{"timeline":{"rooms":["!0-1:example.org"]}}}, "timeline", "m.room.name", "@a:example.org", false, true],
         [{"room":{"timeline":{"rooms":["!1-2:example.org"]}}}, "timeline", "m.room.name", "@a:example.org", false, false],
         [{"room":{"timeline":{"not_rooms":["!0-1:example.org"]}}}, "timeline", "m.room.name", "@a:example.org", false, false],
-        [{"room":{"rooms":[]}}, "timeline", "m.room.name", "@a:example.org", false, true]
+        [{"room":{"rooms":[]}}, "timeline", "m.room.name", "@a:example.org", false, true],
+        [{"room":{"timeline":{"rooms":[]}}}, "timeline", "m.room.name", "@a:example.org", false, false],
+        [{"room":{"state":{"senders":[]}}}, "state", "m.room.name", "@a:example.org", false, false],
+        [{"room":{"state":{"rooms":[]}}}, "timeline", "m.room.name", "@a:example.org", false, true],
+        [{"room":{"timeline":{"not_rooms":[],"not_senders":[],"not_types":[]}}}, "timeline", "m.room.name", "@a:example.org", false, true],
+        [{"room":{"timeline":{"types":["m.room.name"],"not_types":["m.room.name"]}}}, "timeline", "m.room.name", "@a:example.org", false, false]
     ]"#,
     );
     for row in list(&rt, &rows) {
@@ -144,7 +227,10 @@ fn a_filter_says_its_limit_rooms_and_types(rt: HostRuntime) {
         [{"room":{"rooms":[],"include_leave":true}}, 10, false, false, true, true, true],
         [{"room":{"not_rooms":["!0-1:example.org"]}}, 10, false, false, false, true, true],
         [{"room":{"rooms":["!0-1:example.org"],"ephemeral":{"types":["m.typing"]}}}, 10, true, false, false, true, false],
-        [{"account_data":{"not_types":["m.*"]}}, 10, true, false, false, false, true]
+        [{"account_data":{"not_types":["m.*"]}}, 10, true, false, false, false, true],
+        [{"account_data":{"types":[]}}, 10, true, false, false, false, true],
+        [{"room":{"ephemeral":{"types":[]}}}, 10, true, false, false, true, false],
+        [{"room":{"not_rooms":[],"ephemeral":{"not_types":[]}},"account_data":{"not_types":[]}}, 10, true, false, false, true, true]
     ]"#,
     );
     for row in list(&rt, &rows) {

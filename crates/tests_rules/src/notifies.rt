@@ -60,12 +60,12 @@ fn is_said(rt: &impl Abort, alloc: Global, rules: &RuleSet, state: &AuthState, r
     name_of(said) == str_in(rt, row, 5)
 }
 
-/// A room in which `@bo:example.org` has the level 50.
+/// A room in which `@bo:example.org` has the level 50 and `@di:example.org` 40, the one that notifying the team needs.
 fn state(rt: &impl Abort, alloc: Global) -> AuthState {
     let levels = json(
         rt,
         alloc,
-        r#"["m.room.power_levels", "", "@bo:example.org", {"users":{"@bo:example.org":50}}]"#,
+        r#"["m.room.power_levels", "", "@bo:example.org", {"notifications":{"team":40},"users":{"@bo:example.org":50,"@di:example.org":40}}]"#,
     );
     let mut state = AuthState::empty(alloc);
     state.take(&event(rt, alloc, &levels)).expect(rt, "memory");
@@ -130,12 +130,25 @@ fn put_all(rt: &impl Abort, alloc: Global, rules: &mut RuleSet, rows: &Json) {
     }
 }
 
+/// Whether the default rules with those of `puts` say of each event of `rows` what its row says.
+fn are_said(rt: &impl Abort, alloc: Global, puts: &str, rows: &str) -> bool {
+    let puts = json(rt, alloc, puts);
+    let rows = json(rt, alloc, rows);
+    let state = state(rt, alloc);
+    let mut rules = default_rules(rt, alloc);
+    put_all(rt, alloc, &mut rules, &puts);
+    let mut right = true;
+    for row in list(rt, &rows) {
+        if !is_said(rt, alloc, &rules, &state, row) {
+            right = false;
+        }
+    }
+    right
+}
+
 #[test]
 fn the_first_rule_that_matches_decides(rt: HostRuntime) {
-    let puts = json(
-        &rt,
-        rt.alloc(),
-        r#"[
+    let puts = r#"[
         ["override", "few", {"actions":[],"conditions":[{"kind":"room_member_count","is":"<3"},{"kind":"event_match","key":"type","pattern":"a.*"}]}],
         ["override", "many", {"actions":["notify"],"conditions":[{"kind":"room_member_count","is":">=99999999999999999999"}]}],
         ["override", "exact", {"actions":["notify",{"set_tweak":"highlight","value":false}],"conditions":[{"kind":"event_property_is","key":"content.n","value":7},{"kind":"event_match","key":"room_id","pattern":"!1_2:*"}]}],
@@ -144,24 +157,66 @@ fn the_first_rule_that_matches_decides(rt: HostRuntime) {
         ["sender", "@bo:example.org", {"actions":["notify"]}],
         ["room", "!1_2:example.org", {"actions":[]}],
         ["underride", "all", {"actions":["notify"]}]
-    ]"#,
-    );
-    let rows = json(
-        &rt,
-        rt.alloc(),
-        r#"[
+    ]"#;
+    let rows = r#"[
         ["a.b", null, "@cy:example.org", {"body":"alice"}, 2, ""],
         ["a.b", null, "@cy:example.org", {"body":"alice"}, 3, "highlight"],
         ["b.a", null, "@cy:example.org", {"body":"ALxCE."}, 2, "highlight"],
         ["b.a", null, "@bo:example.org", {"body":"malice"}, 3, ""],
         ["b.a", null, "@bo:example.org", {"body":"alices","n":"7"}, 3, ""],
         ["b.a", null, "@bo:example.org", {"body":"alice","n":7}, 3, "notify"]
-    ]"#,
-    );
-    let state = state(&rt, rt.alloc());
-    let mut rules = default_rules(&rt, rt.alloc());
-    put_all(&rt, rt.alloc(), &mut rules, &puts);
-    for row in list(&rt, &rows) {
-        assert!(&rt; is_said(&rt, rt.alloc(), &rules, &state, row));
-    }
+    ]"#;
+    assert!(&rt; are_said(&rt, rt.alloc(), puts, rows));
+}
+
+#[test]
+fn an_override_rule_of_the_user_comes_before_the_default_ones(rt: HostRuntime) {
+    let puts = r#"[
+        ["override", "seven", {"actions":["notify"],"conditions":[{"kind":"event_property_is","key":"content.n","value":7}]}]
+    ]"#;
+    let rows = r#"[
+        ["m.room.message", null, "@bo:example.org", {"body":"x","msgtype":"m.notice"}, 3, ""],
+        ["m.room.message", null, "@bo:example.org", {"body":"x","msgtype":"m.notice","n":7}, 3, "notify"],
+        ["m.room.message", null, "@bo:example.org", {"body":"now @room!"}, 3, "highlight"],
+        ["m.room.message", null, "@bo:example.org", {"body":"now @room!","n":7}, 3, "notify"],
+        ["m.reaction", null, "@bo:example.org", {"n":7}, 3, "notify"],
+        ["m.reaction", null, "@al:example.org", {"n":7}, 3, ""]
+    ]"#;
+    assert!(&rt; are_said(&rt, rt.alloc(), puts, rows));
+}
+
+#[test]
+fn rules_of_a_room_and_of_a_sender_match_by_their_ids(rt: HostRuntime) {
+    let puts = r#"[
+        ["sender", "@bo:example.org", {"actions":["notify",{"set_tweak":"highlight"}]}],
+        ["sender", "@di:example.org", {"actions":[]}],
+        ["room", "!1-2:example.org", {"actions":[]}]
+    ]"#;
+    let rows = r#"[
+        ["m.room.message", null, "@bo:example.org", {"body":"x"}, 3, "highlight"],
+        ["m.room.topic", "", "@bo:example.org", {"topic":"x"}, 3, "highlight"],
+        ["m.room.message", null, "@cy:example.org", {"body":"x"}, 3, "notify"],
+        ["m.room.message", null, "@di:example.org", {"body":"x"}, 3, ""],
+        ["m.room.message", null, "@di:example.org", {"body":"hi al"}, 3, "highlight"]
+    ]"#;
+    assert!(&rt; are_said(&rt, rt.alloc(), puts, rows));
+    let room =
+        r#"[["sender", "@bo:example.org", {"actions":["notify"]}], ["room", "!1_2:example.org", {"actions":[]}]]"#;
+    let silent = r#"[["m.room.message", null, "@bo:example.org", {"body":"x"}, 3, ""]]"#;
+    assert!(&rt; are_said(&rt, rt.alloc(), room, silent));
+}
+
+#[test]
+fn a_sender_may_notify_by_the_level_of_the_key(rt: HostRuntime) {
+    let puts = r#"[
+        ["override", "team", {"actions":["notify",{"set_tweak":"highlight"}],"conditions":[{"kind":"event_match","key":"type","pattern":"org.example.team"},{"kind":"sender_notification_permission","key":"team"}]}]
+    ]"#;
+    let rows = r#"[
+        ["org.example.team", null, "@bo:example.org", {}, 3, "highlight"],
+        ["org.example.team", null, "@di:example.org", {}, 3, "highlight"],
+        ["org.example.team", null, "@cy:example.org", {}, 3, ""],
+        ["m.room.message", null, "@bo:example.org", {"m.mentions":{"room":true}}, 3, "highlight"],
+        ["m.room.message", null, "@di:example.org", {"m.mentions":{"room":true}}, 3, "notify"]
+    ]"#;
+    assert!(&rt; are_said(&rt, rt.alloc(), puts, rows));
 }
