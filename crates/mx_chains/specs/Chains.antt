@@ -9,7 +9,7 @@ use Rattle.mx_fold.specs.Lists.{AreLawful, Histories, lists_of}
 use Rattle.mx_sync.specs.Replies.{server_for}
 use Rattle.mx_ask.specs.declared.ask.Request.{Request}
 use Rattle.mx_engine.specs.Answers.{Stops}
-use Rattle.mx_engine.specs.Asked.{Site}
+use Rattle.mx_aims.specs.Asked.{Site}
 use Rattle.mx_engine.specs.Exchanges.{AreExchanges}
 use Rattle.mx_engine.specs.declared.answered.Answered.{Answered}
 use Rattle.mx_engine.specs.declared.answered.Counts.{Counts}

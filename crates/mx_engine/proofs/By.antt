@@ -10,11 +10,12 @@ use Rattle.mx_fold.specs.Lists.{Grows, Histories, Lists, lists_of}
 use Rattle.mx_front.specs.Shown.{place_of_pass, seen_by}
 use Rattle.mx_writers.specs.declared.gate.Gate.{Ghosts}
 use Rattle.mx_engine.specs.Answers.{Act, IsDone, Marks, Notes, Puts, Reads, Stops, made_for}
-use Rattle.mx_engine.specs.Shown.{HasLooked, IsDoneBy, LooksOn, Ties, entry_aimed_of, known_of, made_of, note_aimed_of, receipt_aimed_of, stops_of, stores_of}
-use Rattle.mx_engine.specs.Stored.{EntryAimed, NoteAimed, ReceiptAimed}
-use Rattle.mx_engine.specs.declared.entry_aims.EntryAim.{EntryAim}
-use Rattle.mx_engine.specs.declared.entry_aims.ReceiptAim.{ReceiptAim}
-use Rattle.mx_engine.specs.declared.marker_aims.NoteAim.{NoteAim}
+use Rattle.mx_engine.specs.Shown.{HasLooked, IsDoneBy, LooksOn, Ties, known_of, made_of, stops_of, stores_of}
+use Rattle.mx_aims.specs.Aims.{entry_aimed_of, note_aimed_of, receipt_aimed_of}
+use Rattle.mx_aims.specs.Stored.{EntryAimed, NoteAimed, ReceiptAimed}
+use Rattle.mx_aims.specs.declared.entry_aims.EntryAim.{EntryAim}
+use Rattle.mx_aims.specs.declared.entry_aims.ReceiptAim.{ReceiptAim}
+use Rattle.mx_aims.specs.declared.marker_aims.NoteAim.{NoteAim}
 use Rattle.mx_engine.specs.declared.answered.Answered.{Answered}
 use Rattle.mx_engine.specs.declared.held.Engine.{Engine}
 use Rattle.mx_engine.specs.declared.held.EnginePass.{EnginePass}

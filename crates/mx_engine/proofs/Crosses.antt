@@ -26,9 +26,9 @@ use Rattle.mx_snapshot.specs.contracts.events.Events as Events
 use Rattle.mx_snapshot.specs.contracts.events.Events.TheInside as events_inside
 use Rattle.mx_snapshot.specs.contracts.snapshot.Snapshot as Snapshot
 use Rattle.mx_writers.specs.declared.gate.Gate.{Ghosts}
-use Rattle.mx_users.proofs.directory.Directory.TheSendSync as directory
+use Rattle.mx_aims.proofs.site.Site.TheSendSync as site
 use Rattle.mx_writers.proofs.shards.Writers.TheSendSync as writers
-use Rattle.mx_engine.specs.contracts.events.Rooms as Rooms
+use Rattle.mx_aims.specs.contracts.events.Rooms as Rooms
 use Rattle.mx_engine.specs.contracts.held.Engine as Engine
 use Rattle.mx_engine.specs.contracts.held.EnginePass as EnginePass
 use Rattle.mx_engine.specs.contracts.seated.Seated as Seated
@@ -61,30 +61,24 @@ snapshot_send = declared_send Snapshot.the_type (events_send, (known_receipts.th
 module _ (G : RattleType) (gate : Ghosts G.Denot) where
   pub engine_send : IsSend G → IsSend (Engine.the_row G gate)
   engine_send g = declared_send (Engine.the_type G gate) (
-    directory.the_send,
+    site.the_send,
     (
-      search sendable depth 9,
+      search (writers.the_send, rooms_send, event_send, event_sync, sendable) depth 9,
       (
-        search (writers.the_send, rooms_send, event_send, event_sync, sendable) depth 9,
-        (
-          search (writers.the_send, receipts_send, receipt.the_send, receipt.the_sync, sendable) depth 9,
-          (search (writers.the_send, accounts_send, entry_send, entry_sync, sendable) depth 9, (as_row_send (row_field G) g, tt)),
-        ),
+        search (writers.the_send, receipts_send, receipt.the_send, receipt.the_sync, sendable) depth 9,
+        (search (writers.the_send, accounts_send, entry_send, entry_sync, sendable) depth 9, (as_row_send (row_field G) g, tt)),
       ),
     ),
   )
 
   pub engine_sync : IsSync G → IsSync (Engine.the_row G gate)
   engine_sync g = declared_sync (Engine.the_type G gate) (
-    directory.the_sync,
+    site.the_sync,
     (
-      search sendable depth 9,
+      search (writers.the_sync, rooms_send, event_send, event_sync, sendable) depth 9,
       (
-        search (writers.the_sync, rooms_send, event_send, event_sync, sendable) depth 9,
-        (
-          search (writers.the_sync, receipts_send, receipt.the_send, receipt.the_sync, sendable) depth 9,
-          (search (writers.the_sync, accounts_send, entry_send, entry_sync, sendable) depth 9, (as_row_sync (row_field G) g, tt)),
-        ),
+        search (writers.the_sync, receipts_send, receipt.the_send, receipt.the_sync, sendable) depth 9,
+        (search (writers.the_sync, accounts_send, entry_send, entry_sync, sendable) depth 9, (as_row_sync (row_field G) g, tt)),
       ),
     ),
   )

@@ -22,18 +22,18 @@ use Rattle.mx_entries.specs.declared.drafts.EntryFault.{EntryFault}
 use Rattle.mx_entries.specs.declared.drafts.Never.{Never}
 use Rattle.mx_entries.specs.declared.drafts.ReceiptDraft.{ReceiptDraft}
 use Rattle.mx_fold.specs.Lists.{Grows, Histories, Lists, lists_of}
-use Rattle.mx_engine.specs.Answers.{Act, Files, IsDone, KeepsEntry, KeepsNote, KeepsPut, KeepsReceipt, KeepsWrites, Marks, Notes, Puts, Reads, Sends, Stops, TellsMarker, counts, counts_of, event_refusal, filed, lane_of, made_for, mark_said, note_said, put_said, reading, told_at, write_said, write_stored}
-use Rattle.mx_engine.specs.Asked.{Aimed}
-use Rattle.mx_engine.specs.EventsDecided.{decided_events, plan_of}
-use Rattle.mx_engine.specs.Plans.{decided_plan}
-use Rattle.mx_engine.specs.Stored.{EntryAimed, EntryPut, NoteAimed, ReceiptAimed, entry_refusal, marker_put, never}
+use Rattle.mx_engine.specs.Answers.{Act, Files, IsDone, KeepsEntry, KeepsNote, KeepsPut, KeepsReceipt, KeepsWrites, Marks, Notes, Puts, Reads, Sends, Stops, TellsMarker, counts, counts_of, filed, lane_of, made_for, mark_said, note_said, put_said, reading, write_said, write_stored}
+use Rattle.mx_aims.specs.Asked.{Aimed, event_refusal, told_at}
+use Rattle.mx_aims.specs.EventsDecided.{decided_events, plan_of}
+use Rattle.mx_aims.specs.Plans.{decided_plan}
+use Rattle.mx_aims.specs.Stored.{EntryAimed, EntryPut, NoteAimed, ReceiptAimed, entry_refusal, marker_put, never}
 use Rattle.mx_engine.specs.Written.{IsWritten, KeepsMark, made_after, made_by, mark_by, said_by}
-use Rattle.mx_engine.specs.declared.aim.Told.{Told}
+use Rattle.mx_aims.specs.declared.aim.Told.{Told}
 use Rattle.mx_engine.specs.declared.answered.Answered.{Answered}
 use Rattle.mx_engine.specs.declared.answered.Counts.{Counts}
 use Rattle.mx_engine.specs.declared.answered.Mark.{Mark}
-use Rattle.mx_engine.specs.declared.events.EventDraft.{EventDraft}
-use Rattle.mx_engine.specs.declared.events.EventFault.{EventFault}
+use Rattle.mx_aims.specs.declared.events.EventDraft.{EventDraft}
+use Rattle.mx_aims.specs.declared.events.EventFault.{EventFault}
 use Rattle.mx_ask.specs.declared.refusal.Refusal.{Refusal}
 use Rattle.mx_ask.specs.declared.said.Said.{Said}
 use Rattle.mx_ask.specs.declared.said.Said.TheVariants as said

@@ -8,7 +8,7 @@ use Rattle.mx_engine.specs.declared.answered.Answered.{Answered}
 use Rattle.mx_engine.specs.declared.answered.Counts.{Counts}
 use Rattle.mx_ask.specs.declared.ask.Request.{Request}
 use Rattle.mx_engine.specs.Answers.{IsAnswered, KeepsAct, Stops, answer_to, asked, counts, counts_of}
-use Rattle.mx_engine.specs.Asked.{Site}
+use Rattle.mx_aims.specs.Asked.{Site}
 use Rattle.mx_engine.specs.Exchanges.{first_of, AtMost, IsExchange, AreExchanges, last_counts, HasServed}
 use Rattle.mx_engine.proofs.Done.{all_self}
 

@@ -18,7 +18,7 @@ use Rattle.mx_writers.specs.declared.answers.Refused.TheVariants.{Fault, Full, M
 use Rattle.mx_ask.specs.declared.said.Said.{Said}
 use Rattle.mx_ask.specs.declared.said.Said.TheVariants as said
 use Rattle.mx_engine.specs.Answers.{Files, IsDone, KeepsEntry, Stops, counts_of, filed, filter_id}
-use Rattle.mx_engine.specs.Stored.{entry_refusal}
+use Rattle.mx_aims.specs.Stored.{entry_refusal}
 use Rattle.mx_engine.specs.Written.{IsWritten, filed_by, made_by, mark_by, mark_of, own_by, said_by}
 use Rattle.mx_engine.specs.declared.answered.Answered.{Answered}
 use Rattle.mx_engine.specs.declared.answered.Mark.{Mark}

@@ -1,4 +1,3 @@
-pub mod Blocked
 pub mod By
 pub mod Crosses
 pub mod Done
@@ -8,8 +7,6 @@ pub mod Known
 mod Fresh
 pub mod Later
 pub mod Marked
-pub mod Memberships
 pub mod Noted
 pub mod Repeats
 mod Syncs
-pub mod Users

@@ -21,7 +21,7 @@ use Rattle.mx_ask.specs.declared.refusal.Refusal.TheVariants as refusal
 use Rattle.mx_ask.specs.declared.said.Said.{Said}
 use Rattle.mx_ask.specs.declared.said.Said.TheVariants as said
 use Rattle.mx_engine.specs.Answers.{IsDone, KeepsBoth, KeepsEntry, KeepsNote, KeepsReceipt, Notes, Stops, counts, counts_of, made_for, mark_said, note_said, told_of, write_said, write_stored}
-use Rattle.mx_engine.specs.Stored.{Note, NoteAimed, entry_refusal, marker_draft, marker_put, never, receipts_put}
+use Rattle.mx_aims.specs.Stored.{Note, NoteAimed, entry_refusal, marker_draft, marker_put, never, receipts_put}
 use Rattle.mx_engine.specs.Written.{IsWritten, KeepsMark, Outcome, made_after, made_by, mark_by, mark_of, noted_at, noted_mark, own_by, said_by}
 use Rattle.mx_engine.specs.declared.answered.Answered.{Answered}
 use Rattle.mx_engine.specs.declared.answered.Counts.{Counts}

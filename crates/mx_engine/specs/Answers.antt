@@ -8,17 +8,15 @@ use Rattle.mx_event.specs.declared.event.Event.{Event}
 use Rattle.mx_fold.specs.Lists.{Grows, Histories, Lists, lists_of}
 use Rattle.mx_json.specs.declared.value.Json.{Json}
 use Rattle.mx_receipt.specs.declared.receipt.ReceiptKind.{ReceiptKind}
-use Rattle.mx_room.specs.declared.fault.RoomFault.{RoomFault}
-use Rattle.mx_room.specs.declared.fault.RoomFault.TheVariants as room_faults
 use Rattle.mx_writers.specs.Decision.{Decision, Stores, Keeps, Refuses}
-use Rattle.mx_engine.specs.Asked.{Aimed, Site, create_aimed, create_refusal, invite_aimed, join_aimed, member_aimed, redact_aimed, room_of, send_aimed, state_aimed, unban_aimed, writer_for}
-use Rattle.mx_engine.specs.Plans.{decided_plan}
+use Rattle.mx_aims.specs.Asked.{Aimed, Site, create_aimed, event_refusal, invite_aimed, join_aimed, member_aimed, redact_aimed, room_of, send_aimed, state_aimed, told_at, unban_aimed, writer_for}
+use Rattle.mx_aims.specs.Plans.{decided_plan}
 use Rattle.mx_engine.specs.Reads.{of_room, page_said, sync_said}
 use Rattle.mx_room_reads.specs.Reads.{joined_rooms_said, one_event_said, room_members_said, room_state_said, state_content_said}
 use Rattle.mx_user_reads.specs.Filters.{stored_filter}
 use Rattle.mx_user_reads.specs.Rules.{push_rule, push_rules, rule_actions, rule_enabled}
 use Rattle.mx_user_reads.specs.Values.{account_value, room_tags}
-use Rattle.mx_engine.specs.Stored.{EntryAimed, EntryPut, Note, NoteAimed, ReceiptAimed, ReceiptPut, account_aimed, entry_refusal, marker_aimed, marker_put, never, note_aimed, receipt_aimed, receipts_aimed, receipts_put, rules_aimed, tag_aimed, untag_aimed}
+use Rattle.mx_aims.specs.Stored.{EntryAimed, EntryPut, Note, NoteAimed, ReceiptAimed, ReceiptPut, account_aimed, entry_refusal, marker_aimed, marker_put, never, note_aimed, receipt_aimed, receipts_aimed, receipts_put, rules_aimed, tag_aimed, untag_aimed}
 use Rattle.mx_entries.specs.Decided.{decided_entries}
 use Rattle.mx_entries.specs.Lawful.{entry_placed, receipt_placed}
 use Rattle.mx_entries.specs.Receipts.{decided_receipts}
@@ -27,16 +25,12 @@ use Rattle.mx_entries.specs.declared.drafts.EntryDraft.TheVariants as drafts
 use Rattle.mx_entries.specs.declared.drafts.EntryFault.{EntryFault}
 use Rattle.mx_entries.specs.declared.drafts.RuleChange.TheVariants as change
 use Rattle.mx_engine.specs.Written.{KeepsMark, made_after, mark_of}
-use Rattle.mx_engine.specs.declared.aim.Told.{Told}
-use Rattle.mx_engine.specs.declared.aim.Told.TheVariants as told
 use Rattle.mx_engine.specs.declared.answered.Answered.{Answered}
 use Rattle.mx_engine.specs.declared.answered.Counts.{Counts}
 use Rattle.mx_engine.specs.declared.answered.Mark.{Mark}
 use Rattle.mx_ask.specs.declared.ask.Ask.{Ask}
 use Rattle.mx_ask.specs.declared.ask.Ask.TheVariants as ask
 use Rattle.mx_ask.specs.declared.ask.Who.{Who}
-use Rattle.mx_engine.specs.declared.events.EventFault.{EventFault}
-use Rattle.mx_engine.specs.declared.events.EventFault.TheVariants as faults
 use Rattle.mx_ask.specs.declared.refusal.Refusal.{Refusal}
 use Rattle.mx_ask.specs.declared.refusal.Refusal.TheVariants as refusal
 use Rattle.mx_ask.specs.declared.said.Said.{Said}
@@ -79,24 +73,6 @@ write_stored (Stores xs) None = xs
 write_stored (Stores xs) (Some next) = []
 write_stored (Keeps n) full = []
 write_stored (Refuses f) full = []
-
-abbrev pub room_refusal : RoomFault → Refusal
-room_refusal room_faults.NoRoom = refusal.NotFound
-room_refusal room_faults.TooLarge = refusal.TooLarge
-room_refusal room_faults.NoTarget = refusal.NotFound
-room_refusal (room_faults.Denied rule) = refusal.Denied rule
-room_refusal room_faults.Memory = refusal.NotFound
-
-abbrev pub event_refusal : EventFault → Refusal
-event_refusal (faults.Room f) = room_refusal f
-event_refusal (faults.Create f) = create_refusal f
-
--- what is told where a write's position is `at`
-abbrev pub told_at : Told → ℕ → Said
-told_at told.Sent at = said.Sent (record { at = at })
-told_at (told.Room room) at = said.Room room
-told_at told.Done at = said.Done
-told_at (told.Created writer) at = said.Room (record { writer = writer; at = at })
 
 -- ---- who asks
 

@@ -5,7 +5,7 @@ use Rattle.mx_engine.specs.declared.answered.Answered.{Answered}
 use Rattle.mx_engine.specs.declared.answered.Counts.{Counts}
 use Rattle.mx_ask.specs.declared.ask.Request.{Request}
 use Rattle.mx_engine.specs.Answers.{IsAnswered, KeepsAct, Stops, answer_to, asked, counts, counts_of}
-use Rattle.mx_engine.specs.Asked.{Site}
+use Rattle.mx_aims.specs.Asked.{Site}
 
 -- the first stores of each stream
 abbrev pub first_of : Histories → Counts → Histories

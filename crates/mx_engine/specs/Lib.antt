@@ -1,11 +1,6 @@
 pub mod Answers
-pub mod Asked
-pub mod EventsDecided
 pub mod Exchanges
-pub mod Plans
 pub mod Reads
 pub mod Repeats
 pub mod Shown
-pub mod Stored
-pub mod Waiting
 pub mod Written

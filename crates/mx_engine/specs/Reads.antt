@@ -13,21 +13,16 @@ use Rattle.mx_pager.specs.Asks.{asks_ahead}
 use Rattle.mx_pager.specs.Pages.{page_of, sees}
 use Rattle.mx_pager.specs.declared.asked.Bound.{Bound}
 use Rattle.mx_pager.specs.declared.asked.PageAsk.{PageAsk}
-use Rattle.mx_room_reads.specs.Places.{has_room}
 use Rattle.mx_snapshot.specs.declared.snapshot.Snapshot.{Snapshot}
 use Rattle.mx_sync.specs.Asks.{ahead_of, held}
 use Rattle.mx_sync.specs.Replies.{reply_of}
-use Rattle.mx_window.specs.Lasts.{keep_if}
+use Rattle.mx_aims.specs.Stored.{there}
 use Rattle.mx_user_reads.specs.Filters.{filter_for}
 
 -- a position of a token that lies after its stream's front, with that front, is told; else this is
 abbrev pub unless_ahead : Option (ℕ × ℕ) → Said → Said
 unless_ahead None told = told
 unless_ahead (Some p) told = said.Refused (refusal.TokenAhead p.0 p.1)
-
--- the room, if it is there
-abbrev pub there : Lists → Option RoomId → Option RoomId
-there l room = keep_if (has_room l) room
 
 -- of a room this is told
 abbrev pub of_room : (RoomId → Said) → Option RoomId → Said

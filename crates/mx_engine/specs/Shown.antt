@@ -1,24 +1,15 @@
--- What a clause reads of an engine, of its passes and of what a writer is asked to store.
-use Rattle.std.specs.Prelude.{◌≡◌, ℕ, ◌<◌, ◌≤◌, Ok, Err}
+-- What a clause reads of an engine and of its passes.
+use Rattle.std.specs.Prelude.{◌≡◌, ℕ, ◌<◌, ◌≤◌}
 use Rattle.mx_front.specs.Shown.{place_of, place_of_pass, reads, seen_by, stop_of}
 use Rattle.mx_writers.specs.declared.gate.Gate.{Ghosts}
 use Rattle.mx_core.specs.History.{Begins}
 use Rattle.mx_fold.specs.Lists.{Histories, Lists, lists_of}
 use Rattle.mx_rest.specs.Servers as snapshots
 use Rattle.mx_engine.specs.Answers.{Act, IsDone, Stops, made_for}
-use Rattle.mx_engine.specs.Stored.{EntryAimed, NoteAimed, ReceiptAimed}
-use Rattle.mx_engine.specs.declared.entry_aims.EntryAim.{EntryAim}
-use Rattle.mx_engine.specs.declared.entry_aims.EntryAim.TheVariants as entry_aim
-use Rattle.mx_engine.specs.declared.entry_aims.ReceiptAim.{ReceiptAim}
-use Rattle.mx_engine.specs.declared.entry_aims.ReceiptAim.TheVariants as receipt_aim
-use Rattle.mx_engine.specs.declared.marker_aims.NoteAim.{NoteAim}
-use Rattle.mx_engine.specs.declared.marker_aims.NoteAim.TheVariants as note_aim
 use Rattle.mx_engine.specs.declared.answered.Answered.{Answered}
-use Rattle.mx_engine.specs.Asked.{Aimed, Site}
-use Rattle.mx_engine.specs.EventsDecided.{plan_of}
+use Rattle.mx_aims.specs.Aims as aims
+use Rattle.mx_aims.specs.Asked.{Site}
 use Rattle.mx_engine.specs.declared.answered.Counts.{Counts}
-use Rattle.mx_engine.specs.declared.aim.Aim.{Aim}
-use Rattle.mx_engine.specs.declared.aim.Aim.TheVariants as aim
 use Rattle.mx_ask.specs.declared.ask.Ask.{Ask}
 use Rattle.mx_ask.specs.declared.ask.Ask.TheVariants as ask
 use Rattle.mx_engine.specs.declared.held.Engine.{Engine}
@@ -62,42 +53,9 @@ abbrev pub LooksFor : Ask → EnginePass → EnginePass → Type 0
 LooksFor ask.WhoAmI old new = Unit {0}
 LooksFor other old new = HasLooked old new
 
-abbrev pub aimed_of : Aim → Aimed
-aimed_of (aim.Refused r) = Err r
-aimed_of (aim.Write k draft told) = Ok (record { writer = k; plan = plan_of draft; told = told })
-
--- the writer that is asked is one of so many
-abbrev pub IsWithin : ℕ → Aim → Type 0
-IsWithin writers (aim.Refused r) = Unit {0}
-IsWithin writers (aim.Write k draft told) = k < writers
-
-abbrev pub entry_aimed_of : EntryAim → EntryAimed
-entry_aimed_of (entry_aim.Refused r) = Err r
-entry_aimed_of (entry_aim.Write k draft) = Ok (record { writer = k; draft = draft })
-
-abbrev pub IsEntryWithin : ℕ → EntryAim → Type 0
-IsEntryWithin writers (entry_aim.Refused r) = Unit {0}
-IsEntryWithin writers (entry_aim.Write k draft) = k < writers
-
-abbrev pub receipt_aimed_of : ReceiptAim → ReceiptAimed
-receipt_aimed_of (receipt_aim.Refused r) = Err r
-receipt_aimed_of (receipt_aim.Write k draft) = Ok (record { writer = k; draft = draft })
-
-abbrev pub IsReceiptWithin : ℕ → ReceiptAim → Type 0
-IsReceiptWithin writers (receipt_aim.Refused r) = Unit {0}
-IsReceiptWithin writers (receipt_aim.Write k draft) = k < writers
-
-abbrev pub note_aimed_of : NoteAim → NoteAimed
-note_aimed_of (note_aim.Refused r) = Err r
-note_aimed_of (note_aim.Write k content receipts) = Ok (record { writer = k; content = content; receipts = receipts })
-
-abbrev pub IsNoteWithin : ℕ → NoteAim → Type 0
-IsNoteWithin writers (note_aim.Refused r) = Unit {0}
-IsNoteWithin writers (note_aim.Write k content receipts) = k < writers
-
 module _ {G : Type 0} {g : Ghosts G} where
   abbrev pub site_of : Engine G g → Site
-  site_of e = record { users = e.users; writers = e.workers }
+  site_of e = aims.site_of e.site
 
   -- the pass is one of the engine's streams
   pub record IsSeated (e : Engine G g) (p : EnginePass) : Type 0 where

@@ -40,7 +40,7 @@ impl<G: Gate + Drop> Engine<G> {
         match ask {
             Ask::WhoAmI => self.whoami(alloc, pass, now, who),
             Ask::CreateRoom { body } => {
-                let aim = self.create_aim(alloc, now, who, &body);
+                let aim = self.site.create_aim(alloc, now, who, &body);
                 self.send(rt, alloc, pass, now, aim)
             }
             Ask::Send {
@@ -49,7 +49,9 @@ impl<G: Gate + Drop> Engine<G> {
                 txn,
                 content,
             } => {
-                let aim = self.send_aim(alloc, now, who, &room, kind, txn, content);
+                let aim = self
+                    .site
+                    .send_aim(alloc, now, who, &room, kind, txn, content);
                 self.send(rt, alloc, pass, now, aim)
             }
             Ask::PutState {
@@ -58,7 +60,9 @@ impl<G: Gate + Drop> Engine<G> {
                 key,
                 content,
             } => {
-                let aim = self.state_aim(alloc, now, who, &room, kind, key, content);
+                let aim = self
+                    .site
+                    .state_aim(alloc, now, who, &room, kind, key, content);
                 self.send(rt, alloc, pass, now, aim)
             }
             Ask::Redact {
@@ -67,31 +71,37 @@ impl<G: Gate + Drop> Engine<G> {
                 txn,
                 reason,
             } => {
-                let aim = self.redact_aim(alloc, now, who, &room, event, txn, reason);
+                let aim = self
+                    .site
+                    .redact_aim(alloc, now, who, &room, event, txn, reason);
                 self.send(rt, alloc, pass, now, aim)
             }
             Ask::Join { room, reason } => {
-                let aim = self.join_aim(alloc, now, who, &room, reason);
+                let aim = self.site.join_aim(alloc, now, who, &room, reason);
                 self.send(rt, alloc, pass, now, aim)
             }
             Ask::Leave { room, reason } => {
-                let aim = self.leave_aim(alloc, now, who, &room, reason);
+                let aim = self.site.leave_aim(alloc, now, who, &room, reason);
                 self.send(rt, alloc, pass, now, aim)
             }
             Ask::Invite { room, user, reason } => {
-                let aim = self.invite_aim(alloc, now, who, &room, user, reason);
+                let aim = self.site.invite_aim(alloc, now, who, &room, user, reason);
                 self.send(rt, alloc, pass, now, aim)
             }
             Ask::Kick { room, user, reason } => {
-                let aim = self.member_aim(alloc, now, who, &room, user, "leave", reason);
+                let aim = self
+                    .site
+                    .member_aim(alloc, now, who, &room, user, "leave", reason);
                 self.send(rt, alloc, pass, now, aim)
             }
             Ask::Ban { room, user, reason } => {
-                let aim = self.member_aim(alloc, now, who, &room, user, "ban", reason);
+                let aim = self
+                    .site
+                    .member_aim(alloc, now, who, &room, user, "ban", reason);
                 self.send(rt, alloc, pass, now, aim)
             }
             Ask::Unban { room, user, reason } => {
-                let aim = self.unban_aim(alloc, now, who, &room, user, reason);
+                let aim = self.site.unban_aim(alloc, now, who, &room, user, reason);
                 self.send(rt, alloc, pass, now, aim)
             }
             Ask::Messages {
@@ -219,7 +229,7 @@ impl<G: Gate + Drop> Engine<G> {
     fn named(&self, alloc: Global, who: &Who) -> Result<Said, Memory>
         ensures { IfOk result (λ said. said ≡ whoami_said (site_of self.now) who.now) }
     {
-        let name = match self.users.users().devices.get(who.device as usize) {
+        let name = match self.site.users().users().devices.get(who.device as usize) {
             Some(device) => device.name.copy(alloc)?,
             None => Text::new(alloc),
         };

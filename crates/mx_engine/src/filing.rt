@@ -4,7 +4,7 @@ ghost use Rattle.std.specs.Prelude.{◌≡◌, ◌<◌, IfOk, take};
 ghost use Rattle.mx_core.specs.History.{Begins, items_of, own};
 ghost use Rattle.mx_entries.specs.Own.{filters_of};
 ghost use Rattle.mx_engine.specs.Answers.{Files};
-ghost use Rattle.mx_engine.specs.Asked.{writer_for};
+ghost use Rattle.mx_aims.specs.Asked.{writer_for};
 ghost use Rattle.mx_engine.specs.Shown.{IsDoneBy, LooksOn, Ties, made_of, site_of, stores_of};
 ghost use Rattle.mx_engine.specs.Written.{filed_by};
 
@@ -39,7 +39,7 @@ impl<G: Gate + Drop> Engine<G> {
         let Ok(user) = who.user.copy(alloc) else {
             return pass.no_memory(now);
         };
-        let shard = self.writer_for(&who.user);
+        let shard = self.site.writer_for(&who.user);
         let draft = EntryDraft::Filter { user, filter };
         let answer = write_on(
             rt,
@@ -76,7 +76,7 @@ impl<G: Gate + Drop> Engine<G> {
         stores: u64,
     ) -> Result<u64, Memory>
         requires ties { Ties self.now pass.old }
-        requires within { shard < self.now.workers }
+        requires within { shard < self.now.site.workers }
         ensures ties { Ties self.now pass.new }
         ensures begins { Begins (stores_of pass.old).accounts (stores_of pass.new).accounts }
         ensures others { ((stores_of pass.new).events ≡ (stores_of pass.old).events) × ((stores_of pass.new).receipts ≡ (stores_of pass.old).receipts) }

@@ -4,18 +4,18 @@ ghost use Rattle.std.specs.Prelude.{◌≡◌, ◌<◌, List, Ok, IfOk};
 ghost use Rattle.mx_event.specs.declared.event.Event.{Event};
 ghost use Rattle.mx_fold.specs.Lists.{Grows, Histories, lists_of};
 ghost use Rattle.mx_engine.specs.Answers.{IsDone, Notes, made_for};
-ghost use Rattle.mx_engine.specs.Shown.{IsNoteWithin, LooksOn, Ties, made_of, note_aimed_of, stops_of, stores_of};
-ghost use Rattle.mx_engine.specs.Stored.{NoteAimed, marker_draft};
+ghost use Rattle.mx_engine.specs.Shown.{LooksOn, Ties, made_of, stops_of, stores_of};
+ghost use Rattle.mx_aims.specs.Aims.{IsNoteWithin, note_aimed_of};
+ghost use Rattle.mx_aims.specs.Stored.{NoteAimed};
 ghost use Rattle.mx_engine.specs.Written.{noted_mark};
 
 use crate::answered::{Answered, Counts, Mark};
-use crate::contents::text;
 use crate::held::{Engine, EnginePass};
-use crate::marker_aims::NoteAim;
 use crate::seat::write_on;
 use crate::writes::{mark_by, marked_said, own_by, put_said};
-use mx_entries::{EntryDraft, Never, ReceiptDraft};
-use mx_ids::{Copied, Memory};
+use mx_aims::{NoteAim, marker_draft};
+use mx_entries::{Never, ReceiptDraft};
+use mx_ids::Memory;
 use mx_json::Json;
 use mx_writers::{Gate, Refused, Written};
 use std::alloc::Global;
@@ -32,7 +32,7 @@ impl<G: Gate + Drop> Engine<G> {
         aim: Result<NoteAim, Memory>,
     ) -> Answered
         requires ties { Ties self.now pass.old }
-        requires within { IfOk aim (IsNoteWithin self.now.workers) }
+        requires within { IfOk aim (IsNoteWithin self.now.site.workers) }
         ensures ties { Ties self.now pass.new }
         ensures done { (aims : List Event → NoteAimed) (old : Histories) → Grows old (stores_of pass.old) → IfOk aim (λ a. note_aimed_of a ≡ aims (lists_of (stores_of pass.old)).events) → IsDone (stops_of self.now) (Notes aims) old (stores_of pass.new) result }
         ensures made { (aims : List Event → NoteAimed) → made_of pass.new ≡ made_for (Notes aims) result.mark (made_of pass.old) }
@@ -60,7 +60,7 @@ impl<G: Gate + Drop> Engine<G> {
         receipts: ReceiptDraft,
     ) -> Answered
         requires ties { Ties self.now pass.old }
-        requires within { shard < self.now.workers }
+        requires within { shard < self.now.site.workers }
         ensures ties { Ties self.now pass.new }
         ensures done { (aims : List Event → NoteAimed) (old : Histories) → Grows old (stores_of pass.old) → Ok (record { writer = shard; content = content; receipts = receipts }) ≡ aims (lists_of (stores_of pass.old)).events → IsDone (stops_of self.now) (Notes aims) old (stores_of pass.new) result }
         ensures made { (aims : List Event → NoteAimed) → made_of pass.new ≡ made_for (Notes aims) result.mark (made_of pass.old) }
@@ -98,18 +98,6 @@ impl<G: Gate + Drop> Engine<G> {
             }
         }
     }
-}
-
-/// The account data `m.fully_read` of the room and the user of receipts.
-fn marker_draft(alloc: Global, receipts: &ReceiptDraft, content: Json) -> Result<EntryDraft, Memory>
-    ensures { IfOk result (λ d. d ≡ marker_draft receipts.now content) }
-{
-    Ok(EntryDraft::Data {
-        user: receipts.user.copy(alloc)?,
-        room: Some(receipts.room),
-        kind: text(alloc, "m.fully_read")?,
-        content,
-    })
 }
 
 /// The mark of a write of receipts after `m.fully_read` was stored.

@@ -14,9 +14,9 @@ use std::alloc::Global;
 impl<G: Gate + Drop> Engine<G> {
     /// The users of the server, found by look-ups. Takes no memory.
     pub fn users(&self) -> &Directory
-        ensures { result.now ≡ self.now.users }
+        ensures { result.now ≡ self.now.site.users }
     {
-        &self.users
+        self.site.users()
     }
 
     /// A new pass that has seen what a pass of this engine has seen, and with which no store was made. Always `Ok`.

@@ -2,7 +2,7 @@
 
 ghost use Rattle.std.specs.Prelude.{◌≡◌, IfOk};
 ghost use Rattle.mx_engine.specs.Reads as told;
-ghost use Rattle.mx_engine.specs.Asked.{room_of};
+ghost use Rattle.mx_aims.specs.Asked.{room_of};
 ghost use Rattle.mx_engine.specs.Answers.{Reads};
 ghost use Rattle.mx_engine.specs.Shown.{IsDoneBy, Ties, site_of};
 ghost use Rattle.mx_rest.specs.Servers.{AreValid, lists_of};
@@ -64,7 +64,7 @@ impl<G: Gate + Drop> Engine<G> {
         requires ties { Ties self.now pass.old }
         ensures done { IsDoneBy self.now now (Reads (λ l. told.page_said l who.now.user (room_of (site_of self.now) room.now) backward from to limit filter.now)) pass.old pass.new result }
     {
-        let room = self.room_of(room);
+        let room = self.site.room_of(room);
         let Ok(()) = self.look(rt, alloc, pass) else {
             return pass.no_memory(now);
         };

@@ -1,7 +1,7 @@
 //! What is read of rooms, off what a pass knows.
 
 ghost use Rattle.mx_engine.specs.Answers.{Reads};
-ghost use Rattle.mx_engine.specs.Asked.{room_of};
+ghost use Rattle.mx_aims.specs.Asked.{room_of};
 ghost use Rattle.mx_engine.specs.Reads.{of_room};
 ghost use Rattle.mx_engine.specs.Shown.{IsDoneBy, Ties, site_of};
 ghost use Rattle.mx_room_reads.specs.Reads as of_rooms;
@@ -49,7 +49,7 @@ impl<G: Gate + Drop> Engine<G> {
         requires ties { Ties self.now pass.old }
         ensures done { IsDoneBy self.now now (Reads (λ l. of_room (λ r. of_rooms.state_content_said l who.now.user r kind.now key.now) (room_of (site_of self.now) room.now))) pass.old pass.new result }
     {
-        let room = self.room_of(room);
+        let room = self.site.room_of(room);
         let Ok(()) = self.look(rt, alloc, pass) else {
             return pass.no_memory(now);
         };
@@ -75,7 +75,7 @@ impl<G: Gate + Drop> Engine<G> {
         requires ties { Ties self.now pass.old }
         ensures done { IsDoneBy self.now now (Reads (λ l. of_room (λ r. of_rooms.room_state_said l who.now.user r) (room_of (site_of self.now) room.now))) pass.old pass.new result }
     {
-        let room = self.room_of(room);
+        let room = self.site.room_of(room);
         let Ok(()) = self.look(rt, alloc, pass) else {
             return pass.no_memory(now);
         };
@@ -100,7 +100,7 @@ impl<G: Gate + Drop> Engine<G> {
         requires ties { Ties self.now pass.old }
         ensures done { IsDoneBy self.now now (Reads (λ l. of_room (λ r. of_rooms.room_members_said l who.now.user r membership.now not_membership.now) (room_of (site_of self.now) room.now))) pass.old pass.new result }
     {
-        let room = self.room_of(room);
+        let room = self.site.room_of(room);
         let Ok(()) = self.look(rt, alloc, pass) else {
             return pass.no_memory(now);
         };
@@ -134,7 +134,7 @@ impl<G: Gate + Drop> Engine<G> {
         requires ties { Ties self.now pass.old }
         ensures done { IsDoneBy self.now now (Reads (λ l. of_room (λ r. of_rooms.one_event_said l who.now.user r event.now) (room_of (site_of self.now) room.now))) pass.old pass.new result }
     {
-        let room = self.room_of(room);
+        let room = self.site.room_of(room);
         let Ok(()) = self.look(rt, alloc, pass) else {
             return pass.no_memory(now);
         };

@@ -6,13 +6,12 @@ ghost use Rattle.mx_writers.specs.Start.{AreFreshFolds};
 ghost use Rattle.mx_engine.specs.Answers.{nothing};
 ghost use Rattle.mx_engine.specs.Shown.{Ties, stores_of, made_of, none_made, site_of, stops_of};
 
-use crate::events::Rooms;
 use crate::held::{Engine, EnginePass};
 use crate::seat::Seat;
+use mx_aims::{Rooms, Site, rooms};
 use mx_entries::{Accounts, Receipts, accounts, receipts};
 use mx_front::stream;
 use mx_ids::{Memory, Seq};
-use mx_room::book;
 use mx_snapshot::Snapshot;
 use mx_users::Directory;
 use mx_writers::{Folds, Gate, Writers, writers};
@@ -60,10 +59,10 @@ pub fn engine<G: Gate + Drop>(
         stop,
         all_accounts(alloc, workers)?,
     )?;
+    let site = Site::new(users, workers);
     Ok((
         Engine {
-            users,
-            workers,
+            site,
             events,
             receipts: receipt_writers,
             accounts: account_writers,
@@ -102,7 +101,7 @@ fn all_rooms(alloc: Global, workers: u8) -> Result<Seq<Rooms>, Memory>
 {
     let mut all = Seq::new(alloc);
     'writers: for writer in 0..workers {
-        all.push(fresh_rooms(alloc, writer)?)?;
+        all.push(rooms(alloc, writer)?)?;
     }
     Ok(all)
 }
@@ -125,13 +124,4 @@ fn all_accounts(alloc: Global, workers: u8) -> Result<Seq<Accounts>, Memory>
         all.push(accounts(alloc, writer))?;
     }
     Ok(all)
-}
-
-/// The rooms of a writer, without a store. `Memory` is never answered.
-fn fresh_rooms(alloc: Global, writer: u8) -> Result<Rooms, Memory>
-    ensures { IfOk result (λ r. (r.book.writer ≡ writer) × (r.book.stores ≡ [])) }
-{
-    Ok(Rooms {
-        book: book(alloc, writer)?,
-    })
 }

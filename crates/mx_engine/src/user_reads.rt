@@ -1,7 +1,7 @@
 //! What is read of a user's own data, off what a pass knows.
 
 ghost use Rattle.mx_engine.specs.Answers.{Reads, account_told};
-ghost use Rattle.mx_engine.specs.Asked.{room_of};
+ghost use Rattle.mx_aims.specs.Asked.{room_of};
 ghost use Rattle.mx_engine.specs.Reads.{of_room};
 ghost use Rattle.mx_engine.specs.Shown.{IsDoneBy, Ties, site_of};
 ghost use Rattle.mx_user_reads.specs.Filters as of_filters;
@@ -63,7 +63,7 @@ impl<G: Gate + Drop> Engine<G> {
                 account_value(alloc, &pass.snapshot, &who.user, None, kind),
             );
         };
-        let Some(room) = self.room_of(room) else {
+        let Some(room) = self.site.room_of(room) else {
             return pass.told(now, Ok(Said::Refused(Refusal::NotFound)));
         };
         pass.told(
@@ -85,7 +85,7 @@ impl<G: Gate + Drop> Engine<G> {
         requires ties { Ties self.now pass.old }
         ensures done { IsDoneBy self.now now (Reads (λ l. of_room (λ r. of_values.room_tags l who.now.user r) (room_of (site_of self.now) room.now))) pass.old pass.new result }
     {
-        let room = self.room_of(room);
+        let room = self.site.room_of(room);
         let Ok(()) = self.look(rt, alloc, pass) else {
             return pass.no_memory(now);
         };

@@ -2,7 +2,7 @@
 
 ghost use Rattle.mx_engine.specs.Answers.{Marks, Notes, Puts};
 ghost use Rattle.mx_engine.specs.Shown.{IsDoneBy, Ties, site_of};
-ghost use Rattle.mx_engine.specs.Stored as stored;
+ghost use Rattle.mx_aims.specs.Stored as stored;
 
 use crate::answered::Answered;
 use crate::held::{Engine, EnginePass};
@@ -34,7 +34,9 @@ impl<G: Gate + Drop> Engine<G> {
         let Ok(()) = self.look(rt, alloc, pass) else {
             return pass.no_memory(now);
         };
-        let aim = self.account_aim(alloc, &pass.snapshot, who, room, kind, content);
+        let aim = self
+            .site
+            .account_aim(alloc, &pass.snapshot, who, room, kind, content);
         self.put(rt, alloc, pass, now, aim)
     }
 
@@ -56,7 +58,9 @@ impl<G: Gate + Drop> Engine<G> {
         let Ok(()) = self.look(rt, alloc, pass) else {
             return pass.no_memory(now);
         };
-        let aim = self.tag_aim(alloc, &pass.snapshot, who, room, tag, body);
+        let aim = self
+            .site
+            .tag_aim(alloc, &pass.snapshot, who, room, tag, body);
         self.put(rt, alloc, pass, now, aim)
     }
 
@@ -77,7 +81,7 @@ impl<G: Gate + Drop> Engine<G> {
         let Ok(()) = self.look(rt, alloc, pass) else {
             return pass.no_memory(now);
         };
-        let aim = self.untag_aim(alloc, &pass.snapshot, who, room, tag);
+        let aim = self.site.untag_aim(alloc, &pass.snapshot, who, room, tag);
         self.put(rt, alloc, pass, now, aim)
     }
 
@@ -97,7 +101,7 @@ impl<G: Gate + Drop> Engine<G> {
         let Ok(()) = self.look(rt, alloc, pass) else {
             return pass.no_memory(now);
         };
-        let aim = self.rules_aim(alloc, who, change);
+        let aim = self.site.rules_aim(alloc, who, change);
         self.put(rt, alloc, pass, now, aim)
     }
 
@@ -118,7 +122,9 @@ impl<G: Gate + Drop> Engine<G> {
         let Ok(()) = self.look(rt, alloc, pass) else {
             return pass.no_memory(now);
         };
-        let aim = self.marker_aim(alloc, &pass.snapshot, who, room, event);
+        let aim = self
+            .site
+            .marker_aim(alloc, &pass.snapshot, who, room, event);
         self.put(rt, alloc, pass, now, aim)
     }
 
@@ -140,7 +146,9 @@ impl<G: Gate + Drop> Engine<G> {
         let Ok(()) = self.look(rt, alloc, pass) else {
             return pass.no_memory(now);
         };
-        let aim = self.receipt_aim(alloc, &pass.snapshot, now, who, room, kind, event);
+        let aim = self
+            .site
+            .receipt_aim(alloc, &pass.snapshot, now, who, room, kind, event);
         self.mark(rt, alloc, pass, now, aim)
     }
 
@@ -162,7 +170,9 @@ impl<G: Gate + Drop> Engine<G> {
         let Ok(()) = self.look(rt, alloc, pass) else {
             return pass.no_memory(now);
         };
-        let aim = self.receipts_aim(alloc, &pass.snapshot, now, who, room, read, private);
+        let aim = self
+            .site
+            .receipts_aim(alloc, &pass.snapshot, now, who, room, read, private);
         self.mark(rt, alloc, pass, now, aim)
     }
 
@@ -185,7 +195,7 @@ impl<G: Gate + Drop> Engine<G> {
         let Ok(()) = self.look(rt, alloc, pass) else {
             return pass.no_memory(now);
         };
-        let aim = self.note_aim(alloc, &pass.snapshot, now, who, room, event, read, private);
+        let aim = self.site.note_aim(alloc, &pass.snapshot, now, who, room, event, read, private);
         self.note(rt, alloc, pass, now, aim)
     }
 }

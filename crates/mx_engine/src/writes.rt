@@ -1,26 +1,22 @@
 //! Writes, and their marks.
 
 ghost use Rattle.std.specs.Prelude.{◌≡◌, List, IfOk};
-ghost use Rattle.mx_engine.specs.Answers.{IsDone, Marks, Puts, Sends, made_for, event_refusal, told_at};
-ghost use Rattle.mx_engine.specs.Asked.{Aimed, create_refusal};
-ghost use Rattle.mx_engine.specs.EventsDecided.{plan_of};
-ghost use Rattle.mx_engine.specs.Shown.{HasLooked, IsEntryWithin, IsReceiptWithin, IsWithin, LooksOn, Ties, aimed_of, entry_aimed_of, made_of, receipt_aimed_of, stops_of, stores_of};
-ghost use Rattle.mx_engine.specs.Stored.{EntryAimed, ReceiptAimed, entry_refusal, never};
+ghost use Rattle.mx_engine.specs.Answers.{IsDone, Marks, Puts, Sends, made_for};
+ghost use Rattle.mx_aims.specs.Asked.{Aimed, event_refusal, told_at};
+ghost use Rattle.mx_engine.specs.Shown.{HasLooked, LooksOn, Ties, made_of, stops_of, stores_of};
+ghost use Rattle.mx_aims.specs.Aims.{IsEntryWithin, IsReceiptWithin, IsWithin, aimed_of, entry_aimed_of, receipt_aimed_of};
+ghost use Rattle.mx_aims.specs.Stored.{EntryAimed, ReceiptAimed, entry_refusal, never};
 ghost use Rattle.mx_event.specs.declared.event.Event.{Event};
 ghost use Rattle.mx_fold.specs.Lists.{Grows, Histories, lists_of};
 ghost use Rattle.mx_engine.specs.Written.{IsWritten, mark_by, own_by, said_by};
 
-use crate::aim::{Aim, Told};
 use crate::answered::{Answered, Counts, Mark};
-use crate::entry_aims::{EntryAim, ReceiptAim};
-use crate::events::EventFault;
 use crate::held::{Engine, EnginePass};
 use crate::seat::write_on;
+use mx_aims::{Aim, EntryAim, EventFault, ReceiptAim, Told, entry_refusal, event_refusal};
 use mx_ask::{Refusal, Said};
-use mx_create::CreateFault;
 use mx_entries::{EntryFault, Never};
 use mx_ids::Memory;
-use mx_room::RoomFault;
 use mx_writers::{Gate, Refused, Written};
 use std::alloc::Global;
 use std::sync::Wait;
@@ -36,7 +32,7 @@ impl<G: Gate + Drop> Engine<G> {
         aim: Result<Aim, Memory>,
     ) -> Answered
         requires ties { Ties self.now pass.old }
-        requires within { IfOk aim (IsWithin self.now.workers) }
+        requires within { IfOk aim (IsWithin self.now.site.workers) }
         ensures ties { Ties self.now pass.new }
         ensures done { (aimed : Aimed) → IfOk aim (λ a. aimed_of a ≡ aimed) → IsDone (stops_of self.now) (Sends aimed) (stores_of pass.old) (stores_of pass.new) result }
         ensures made { (aimed : Aimed) → IfOk aim (λ a. aimed_of a ≡ aimed) → made_of pass.new ≡ made_for (Sends aimed) result.mark (made_of pass.old) }
@@ -76,7 +72,7 @@ impl<G: Gate + Drop> Engine<G> {
         aim: Result<EntryAim, Memory>,
     ) -> Answered
         requires ties { Ties self.now pass.old }
-        requires within { IfOk aim (IsEntryWithin self.now.workers) }
+        requires within { IfOk aim (IsEntryWithin self.now.site.workers) }
         ensures ties { Ties self.now pass.new }
         ensures done { (aims : List Event → EntryAimed) (old : Histories) → Grows old (stores_of pass.old) → IfOk aim (λ a. entry_aimed_of a ≡ aims (lists_of (stores_of pass.old)).events) → IsDone (stops_of self.now) (Puts aims) old (stores_of pass.new) result }
         ensures made { (aims : List Event → EntryAimed) → made_of pass.new ≡ made_for (Puts aims) result.mark (made_of pass.old) }
@@ -115,7 +111,7 @@ impl<G: Gate + Drop> Engine<G> {
         aim: Result<ReceiptAim, Memory>,
     ) -> Answered
         requires ties { Ties self.now pass.old }
-        requires within { IfOk aim (IsReceiptWithin self.now.workers) }
+        requires within { IfOk aim (IsReceiptWithin self.now.site.workers) }
         ensures ties { Ties self.now pass.new }
         ensures done { (aims : List Event → ReceiptAimed) (old : Histories) → Grows old (stores_of pass.old) → IfOk aim (λ a. receipt_aimed_of a ≡ aims (lists_of (stores_of pass.old)).events) → IsDone (stops_of self.now) (Marks aims) old (stores_of pass.new) result }
         ensures made { (aims : List Event → ReceiptAimed) → made_of pass.new ≡ made_for (Marks aims) result.mark (made_of pass.old) }
@@ -217,42 +213,5 @@ pub(crate) fn marked_said(answer: Result<Written, Refused<Never>>) -> Said
         Err(Refused::Fault(fault, _)) => match fault {},
         Err(Refused::Full(next, _)) => Said::Refused(Refusal::Full(next)),
         Err(Refused::Memory) => Said::NoMemory,
-    }
-}
-
-fn entry_refusal(fault: EntryFault) -> Refusal
-    ensures { result ≡ entry_refusal fault }
-{
-    match fault {
-        EntryFault::DefaultRule => Refusal::DefaultRule,
-        EntryFault::NoRule => Refusal::NotFound,
-        EntryFault::BadCondition => Refusal::BadCondition,
-        EntryFault::BadAction => Refusal::BadAction,
-        EntryFault::NoNeighbour(side) => Refusal::NoNeighbour(side),
-    }
-}
-
-fn event_refusal(fault: EventFault) -> Refusal
-    ensures { result ≡ event_refusal fault }
-{
-    match fault {
-        EventFault::Room(RoomFault::TooLarge) => Refusal::TooLarge,
-        EventFault::Room(RoomFault::Denied(rule)) => Refusal::Denied(rule),
-        EventFault::Room(_) => Refusal::NotFound,
-        EventFault::Create(fault) => create_refusal(fault),
-    }
-}
-
-/// Why a room isn't created.
-pub(crate) fn create_refusal(fault: CreateFault) -> Refusal
-    ensures { result ≡ create_refusal fault }
-{
-    match fault {
-        CreateFault::Version => Refusal::Version,
-        CreateFault::Preset => Refusal::Preset,
-        CreateFault::TooMany => Refusal::TooMany,
-        CreateFault::TooLarge => Refusal::TooLarge,
-        CreateFault::State(rule) => Refusal::State(rule),
-        CreateFault::NoUser | CreateFault::Memory => Refusal::NotFound,
     }
 }

@@ -7,8 +7,8 @@ use Rattle.mx_render.specs.Rendered.{no_memory_text, said_status, said_text}
 use Rattle.mx_writers.specs.Decision.{Placing}
 use Rattle.mx_fold.specs.Lists.{Histories, lists_of}
 use Rattle.mx_engine.specs.Answers.{Act, Files, IsAnswered, KeepsAct, KeepsBoth, KeepsEntry, KeepsMarker, KeepsNote, KeepsPut, KeepsReceipt, KeepsWrites, LeavesReceipts, Marks, Notes, Puts, Reads, Sends, Stops, TellsMarker, act_said, asked, counts_of, filed, of_marker, reading}
-use Rattle.mx_engine.specs.Stored.{EntryAimed, EntryPut, Note, NoteAimed, ReceiptAimed, ReceiptPut, marker_put, receipts_put}
-use Rattle.mx_engine.specs.Asked.{Site}
+use Rattle.mx_aims.specs.Stored.{EntryAimed, EntryPut, Note, NoteAimed, ReceiptAimed, ReceiptPut, marker_put, receipts_put}
+use Rattle.mx_aims.specs.Asked.{Site}
 use Rattle.mx_engine.specs.Written.{KeepsMark}
 use Rattle.mx_engine.specs.declared.answered.Answered.{Answered}
 use Rattle.mx_engine.specs.declared.answered.Mark.{Mark}

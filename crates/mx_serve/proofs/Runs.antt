@@ -4,7 +4,7 @@ use Rattle.mx_http.specs.declared.call.Call.{Call}
 use Rattle.mx_ids.specs.declared.users.Users.{Users}
 use Rattle.mx_fold.specs.Lists.{AreLawful, Histories}
 use Rattle.mx_engine.specs.Answers.{Stops, counts_of, nothing}
-use Rattle.mx_engine.specs.Asked.{Site}
+use Rattle.mx_aims.specs.Asked.{Site}
 use Rattle.mx_serve.specs.Rooms.{AreValid}
 use Rattle.mx_serve.specs.Runs.{Change, Served, run_stops, site_for, status_of}
 use Rattle.mx_serve.specs.Sessions.{InputFaults, IsServed, OutputFaults, moment}

@@ -5,7 +5,7 @@ use Rattle.mx_api.specs.Errors.{refused_json, refused_status}
 use Rattle.mx_render.specs.Rendered.{no_memory_text, said_status, said_text}
 use Rattle.mx_fold.specs.Lists.{Histories}
 use Rattle.mx_engine.specs.Answers.{IsRead, KeepsAct, Stops, act_said, asked, counts}
-use Rattle.mx_engine.specs.Asked.{Site}
+use Rattle.mx_aims.specs.Asked.{Site}
 use Rattle.mx_engine.specs.declared.answered.Counts.{Counts}
 use Rattle.mx_engine.specs.declared.answered.Mark.{Mark}
 use Rattle.mx_serve.specs.declared.call_asked.CallAsked.{CallAsked}

@@ -8,7 +8,7 @@ use Rattle.mx_http.specs.declared.call.Call.{Call}
 use Rattle.mx_users.specs.UsersFile.{users_in}
 use Rattle.mx_fold.specs.Lists.{Histories}
 use Rattle.mx_engine.specs.Answers.{Stops, nothing}
-use Rattle.mx_engine.specs.Asked.{Site}
+use Rattle.mx_aims.specs.Asked.{Site}
 use Rattle.mx_engine.specs.Shown.{stores_of}
 use Rattle.mx_engine.specs.declared.held.EnginePass.{EnginePass}
 use Rattle.mx_serve.specs.declared.ended.End.{End}

@@ -1,6 +1,7 @@
 use Rattle.std.proofs.Common.{◌≡◌}
-use Rattle.mx_engine.specs.Shown.{entry_aimed_of, known_of, site_of}
-use Rattle.mx_engine.specs.Stored.{rules_aimed}
+use Rattle.mx_engine.specs.Shown.{known_of, site_of}
+use Rattle.mx_aims.specs.Aims.{entry_aimed_of}
+use Rattle.mx_aims.specs.Stored.{rules_aimed}
 use Rattle.mx_engine.proofs.By.{at_events, put_by}
 use Rattle.mx_engine.proofs.held.Engine.change_rules.Goals as goal
 
