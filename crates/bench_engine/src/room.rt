@@ -8,9 +8,10 @@ use mx_ask::{Ask, FilterAsk, Said, Who};
 use mx_create::wrong_field;
 use mx_engine::{Engine, EnginePass, Setup, engine};
 use mx_event::Txn;
-use mx_ids::{Copied, Memory, Seq, SyncToken, Text, write_room_id};
+use mx_ids::{Copied, EventId, Memory, Seq, SyncToken, Text, write_event_id, write_room_id};
 use mx_json::{Json, Members, read};
 use mx_outside::Clock;
+use mx_receipt::ReceiptKind;
 use mx_users::{Directory, read_users};
 use mx_writers::Open;
 use std::alloc::Global;
@@ -49,7 +50,7 @@ fn measured<R: Wait, C: Clock>(
     requires ties { Ties engine.now pass.old }
 {
     let room = create(rt, alloc, engine, pass, who)?;
-    send_all(rt, alloc, engine, pass, who, &room, 0, wanted.events)?;
+    let last = send_all(rt, alloc, engine, pass, who, &room, 0, wanted.events)?;
     match wanted.timed {
         Timed::Sends => {
             let start = clock.now();
@@ -66,13 +67,60 @@ fn measured<R: Wait, C: Clock>(
             Ok(clock.now().saturating_sub(start))
         }
         Timed::Syncs => {
-            let since = sync(rt, alloc, engine, pass, who, None)?;
-            send_all(rt, alloc, engine, pass, who, &room, wanted.events, 10)?;
-            sync(rt, alloc, engine, pass, who, Some(since))?;
-            let start = clock.now();
-            sync_all(rt, alloc, engine, pass, who, since, wanted.count)?;
-            Ok(clock.now().saturating_sub(start))
+            read_up_to(rt, alloc, engine, pass, who, &room, last)?;
+            timed_syncs(rt, alloc, clock, engine, pass, who, &room, wanted)
         }
+        Timed::Unread => timed_syncs(rt, alloc, clock, engine, pass, who, &room, wanted),
+    }
+}
+
+/// The milliseconds of the syncs of ten messages.
+fn timed_syncs<R: Wait, C: Clock>(
+    rt: &R,
+    alloc: Global,
+    clock: &mut C,
+    engine: &Engine<Open>,
+    pass: &mut EnginePass,
+    who: &Who,
+    room: &Text,
+    wanted: Wanted,
+) -> Result<u64, Memory>
+    requires ties { Ties engine.now pass.old }
+{
+    let since = sync(rt, alloc, engine, pass, who, None)?;
+    send_all(rt, alloc, engine, pass, who, room, wanted.events, 10)?;
+    sync(rt, alloc, engine, pass, who, Some(since))?;
+    let start = clock.now();
+    sync_all(rt, alloc, engine, pass, who, since, wanted.count)?;
+    Ok(clock.now().saturating_sub(start))
+}
+
+/// Sends the user's receipt for an event of the room, if there is one. `Memory` where it is refused.
+fn read_up_to<R: Wait>(
+    rt: &R,
+    alloc: Global,
+    engine: &Engine<Open>,
+    pass: &mut EnginePass,
+    who: &Who,
+    room: &Text,
+    event: Option<EventId>,
+) -> Result<(), Memory>
+    requires ties { Ties engine.now pass.old }
+    ensures ties { Ties engine.now pass.new }
+{
+    let Some(event) = event else {
+        return Ok(());
+    };
+    let mut id = Text::new(alloc);
+    write_event_id(alloc, &event, "example.org", &mut id)?;
+    let ask = Ask::Receipt {
+        room: room.copy(alloc)?,
+        kind: Some(ReceiptKind::Read),
+        event: id,
+    };
+    match engine.answer(rt, alloc, pass, who, ask, 1000).said {
+        Said::Done => Ok(()),
+        _ => Err(Memory),
     }
 }
 
@@ -158,7 +206,7 @@ fn create<R: Wait>(
     }
 }
 
-/// Sends so many messages, each in a transaction of its own, which are numbered from `first` on.
+/// Sends so many messages, each in a transaction of its own, which are numbered from `first` on: the last one's id.
 fn send_all<R: Wait>(
     rt: &R,
     alloc: Global,
@@ -168,12 +216,13 @@ fn send_all<R: Wait>(
     room: &Text,
     first: u32,
     count: u32,
-) -> Result<(), Memory>
+) -> Result<Option<EventId>, Memory>
     requires ties { Ties engine.now pass.old }
     ensures ties { Ties engine.now pass.new }
 {
+    let mut last = None;
     'sends: for number in 0..count {
-        send(
+        let event = send(
             rt,
             alloc,
             engine,
@@ -182,11 +231,12 @@ fn send_all<R: Wait>(
             room,
             u64::from(first) + u64::from(number),
         )?;
+        last = Some(event);
     }
-    Ok(())
+    Ok(last)
 }
 
-/// Sends a message in a transaction of this number. `Memory` where it isn't stored.
+/// Sends a message in a transaction of this number: its id. `Memory` where it isn't stored.
 fn send<R: Wait>(
     rt: &R,
     alloc: Global,
@@ -195,7 +245,7 @@ fn send<R: Wait>(
     who: &Who,
     room: &Text,
     number: u64,
-) -> Result<(), Memory>
+) -> Result<EventId, Memory>
     requires ties { Ties engine.now pass.old }
     ensures ties { Ties engine.now pass.new }
 {
@@ -206,7 +256,7 @@ fn send<R: Wait>(
         content: read(alloc, b"{\"body\":\"hi\",\"msgtype\":\"m.text\"}").map_err(|_| Memory)?,
     };
     match engine.answer(rt, alloc, pass, who, ask, 1000).said {
-        Said::Sent(_) => Ok(()),
+        Said::Sent(event) => Ok(event),
         _ => Err(Memory),
     }
 }

@@ -7,8 +7,10 @@ use std::env;
 pub enum Timed {
     /// Sends of messages.
     Sends,
-    /// Syncs of the same ten messages.
+    /// Syncs of the same ten messages, where a receipt says that the user has read the events before them.
     Syncs,
+    /// The same syncs where the user never said what it read.
+    Unread,
 }
 
 /// What is measured.
@@ -21,12 +23,13 @@ pub struct Wanted {
     pub count: u32,
 }
 
-/// What the words ask: `sends` or `syncs`, and two numbers.
+/// What the words ask: `sends`, `syncs` or `unread`, and two numbers.
 pub fn read_words(rt: &HostRuntime) -> Option<Wanted> {
     let mut words = env::args(rt).ok()?.skip(1);
     let timed = match words.next()?.as_str() {
         "sends" => Timed::Sends,
         "syncs" => Timed::Syncs,
+        "unread" => Timed::Unread,
         _ => return None,
     };
     let events = words.next()?.parse().ok()?;
