@@ -39,7 +39,7 @@ pub fn respond<G: Gate + Drop, R: Wait>(
 ) -> Reply
     requires ties { Ties engine.now pass.old }
     ensures ties { Ties engine.now pass.new }
-    ensures responds { Responds (site_of engine.now) (stops_of engine.now) (call_asked engine.now.users call.now) now (stores_of pass.old) (stores_of pass.new) result.mark result.answer.status (body_text result.answer.body) }
+    ensures responds { Responds (site_of engine.now) (stops_of engine.now) (call_asked engine.now.site.users call.now) now (stores_of pass.old) (stores_of pass.new) result.mark result.answer.status (body_text result.answer.body) }
 {
     match routes.ask(alloc, call, engine.users()) {
         Ok(asked) => respond_to(rt, alloc, engine, pass, asked, now),
