@@ -19,3 +19,4 @@ pub use laws::{content_is_written, content_reads_back};
 pub use predefined::defaults;
 pub use rule::{Kind, Rule, Test};
 pub use rule_set::RuleSet;
+pub use writing::{entry_json, kinds_json, single};

@@ -22,8 +22,9 @@ impl RuleSet {
     }
 }
 
-/// The lists of the kinds.
-fn kinds_json(alloc: Global, rules: &RuleSet) -> Result<Json, Memory>
+/// An object with the list of the rules of each kind in order: the value of `global` (Client-Server API, Push rules,
+/// `GET /pushrules/global/`).
+pub fn kinds_json(alloc: Global, rules: &RuleSet) -> Result<Json, Memory>
     ensures { IfOk result (λ j. j ≡ kinds_json (rules_of rules.now)) }
 {
     let mut kinds = Members::new(alloc);
@@ -74,8 +75,8 @@ fn entries_json<T: Test>(
     Ok(Seq::from_vec(all))
 }
 
-/// The object of a rule.
-fn entry_json<T: Test>(alloc: Global, id: &Text, rule: &Rule<T>) -> Result<Json, Memory>
+/// The object of a rule of an id (Client-Server API, Push rules, `GET /pushrules/global/{kind}/{ruleId}`).
+pub fn entry_json<T: Test>(alloc: Global, id: &Text, rule: &Rule<T>) -> Result<Json, Memory>
     ensures { IfOk result (λ j. j ≡ entry_json T.asks (id.now, rule.now)) }
 {
     let mut members = Members::new(alloc);
@@ -93,7 +94,7 @@ fn entry_json<T: Test>(alloc: Global, id: &Text, rule: &Rule<T>) -> Result<Json,
 }
 
 /// An object with one key.
-pub(crate) fn single(alloc: Global, key: &str, value: Json) -> Result<Json, Memory>
+pub fn single(alloc: Global, key: &str, value: Json) -> Result<Json, Memory>
     ensures { IfOk result (λ j. j ≡ single key.now value) }
 {
     let mut members = Members::new(alloc);

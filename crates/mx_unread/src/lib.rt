@@ -14,4 +14,5 @@ mod window;
 
 pub use counting::counts;
 pub use laws::counts_stay;
+pub use stored_rules::rules_at;
 pub use unread_counts::Counts;

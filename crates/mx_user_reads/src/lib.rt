@@ -2,7 +2,6 @@
 #![tactic(auto)]
 
 mod filters;
-mod objects;
 mod one_rule;
 mod rules;
 mod told;

@@ -4,14 +4,12 @@ ghost use Rattle.std.specs.Prelude.{◌≡◌, IfOk, option_map};
 ghost use Rattle.std.specs.Option.{option_copied};
 ghost use Rattle.mx_rules.specs.Edits.{find};
 ghost use Rattle.mx_rules.specs.Rules.{rules_of};
-ghost use Rattle.mx_rules.specs.Writing.{entry_json};
 ghost use Rattle.mx_user_reads.specs.Rules.{actions_json, actions_of, enabled_json, enabled_of, json_in, rule_json};
 
-use crate::objects::{put, single};
 use indexmap::IndexMap;
 use mx_ids::{Copied, Memory, Seq, Text};
-use mx_json::{Json, Members};
-use mx_rules::{Kind, Rule, RuleSet, Test};
+use mx_json::Json;
+use mx_rules::{Kind, Rule, RuleSet, Test, entry_json, single};
 use std::alloc::Global;
 
 /// The object of the rule of a kind and an id, if there is one.
@@ -43,20 +41,6 @@ fn json_in<T: Test>(
         Some(rule) => Ok(Some(entry_json(alloc, id, rule)?)),
         None => Ok(None),
     }
-}
-
-/// The object of a rule.
-fn entry_json<T: Test>(alloc: Global, id: &Text, rule: &Rule<T>) -> Result<Json, Memory>
-    ensures { IfOk result (λ j. j ≡ entry_json T.asks (id.now, rule.now)) }
-{
-    let mut members = Members::new(alloc);
-    let actions = Json::List(rule.actions.copy(alloc)?);
-    put(alloc, &mut members, "actions", actions)?;
-    put(alloc, &mut members, "default", Json::Bool(rule.default))?;
-    put(alloc, &mut members, "enabled", Json::Bool(rule.enabled))?;
-    put(alloc, &mut members, "rule_id", Json::Text(id.copy(alloc)?))?;
-    rule.test.write(alloc, &mut members)?;
-    Ok(Json::Object(members))
 }
 
 /// Whether the rule of a kind and an id is enabled, if there is one.

@@ -1,19 +1,17 @@
 //! A user's push rules.
 
-ghost use Rattle.std.specs.Prelude.{◌≡◌, IfOk, None, codes};
+ghost use Rattle.std.specs.Prelude.{◌≡◌, IfOk};
 ghost use Rattle.mx_rest.specs.Servers.{lists_of};
 ghost use Rattle.mx_rules.specs.Rules.{rules_of};
-ghost use Rattle.mx_rules.specs.Writing.{kinds_json};
 ghost use Rattle.mx_user_reads.specs.Rules.{push_rule, push_rules, rule_actions, rule_enabled, rules_now};
 
 use crate::one_rule::{actions_json, actions_of, enabled_json, enabled_of, rule_json};
 use crate::told::told;
-use crate::values::{PUSH_RULES, stored_value};
 use mx_ask::Said;
-use mx_ids::{Copied, Memory, Text, UserId};
-use mx_json::Json;
-use mx_rules::{Kind, RuleSet, defaults};
+use mx_ids::{Memory, Text, UserId};
+use mx_rules::{Kind, RuleSet, kinds_json};
 use mx_snapshot::Snapshot;
+use mx_unread::rules_at;
 use std::alloc::Global;
 
 /// A user's push rules: those that are stored, or the default ones where none are (Client-Server API, Push rules,
@@ -93,20 +91,6 @@ pub fn rule_actions(
 fn rules_now(alloc: Global, snapshot: &Snapshot, user: &UserId) -> Result<RuleSet, Memory>
     ensures { IfOk result (λ s. rules_of s ≡ rules_now (lists_of snapshot.now) user.now) }
 {
-    let stored = match stored_value(snapshot, user, None, PUSH_RULES) {
-        Some(content) => RuleSet::from_json(alloc, content)?,
-        None => None,
-    };
-    match stored {
-        Some(rules) => Ok(rules),
-        None => defaults(alloc, user),
-    }
-}
-
-/// The lists of the kinds, which are the value of `global`.
-fn kinds_json(alloc: Global, rules: &RuleSet) -> Result<Json, Memory>
-    ensures { IfOk result (λ j. j ≡ kinds_json (rules_of rules.now)) }
-{
-    let content = rules.to_json(alloc)?;
-    content.field("global").unwrap().copy(alloc)
+    let accounts = &snapshot.accounts;
+    rules_at(alloc, accounts, user, accounts.front())
 }

@@ -9,13 +9,12 @@ ghost use Rattle.mx_rules.specs.Writing as rules;
 ghost use Rattle.mx_user_reads.specs.Values.{account_value, default_value, has_default, is_there, room_tags, stored_value, tags_json};
 ghost use Rattle.mx_user_reads.specs.Told.{told};
 
-use crate::objects::single;
 use mx_account::{Entry, tags_of};
 use mx_ask::{Refusal, Said};
 use mx_ids::{Copied, Memory, RoomId, Text, UserId};
 use mx_json::{Json, Members};
 use mx_room_reads::has_room;
-use mx_rules::defaults;
+use mx_rules::{defaults, single};
 use mx_snapshot::Snapshot;
 use std::alloc::Global;
 
