@@ -159,6 +159,7 @@ fn sync<R: Wait>(
         since,
         filter: FilterAsk::Absent,
         full_state: false,
+        timeout: 0,
     };
     match engine.answer(rt, alloc, pass, who, ask, 1000).said {
         Said::Synced(reply) => Ok(reply.next),

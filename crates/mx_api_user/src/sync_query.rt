@@ -1,12 +1,14 @@
 //! The parameters of a sync.
-ghost use Rattle.std.specs.Prelude.{◌≡◌, ◌==◌, nat_lt, length, option_map};
-ghost use Rattle.std.specs.List.{list_all};
+ghost use Rattle.std.specs.Prelude.{◌≡◌, ◌≤◌, option_map};
 ghost use Rattle.mx_api.specs.Queries.{is_number, is_wrong};
-ghost use Rattle.mx_api_user.specs.Queries.{first_bad, is_filter, is_full, is_token, is_truth, is_zero, since_in};
+ghost use Rattle.mx_api_user.specs.Queries.{first_bad, is_filter, is_full, is_token, is_timeout, is_truth, since_in, timeout_in};
 
 use mx_api::{Parameter, begins_object, first_wrong, number_within, sync_token_of};
 use mx_http::parameter;
 use mx_ids::{SyncToken, Text};
+
+/// A sync waits for at most so many milliseconds.
+const MOST_TIMEOUT: u64 = 300_000;
 
 /// The first parameter of a query that isn't of its form. Of a repeated parameter the first counts, and unknown ones have no
 /// effect (Client-Server API, Syncing).
@@ -20,7 +22,10 @@ pub(crate) fn first_bad(query: &[(Text, Text)]) -> Option<Parameter>
             Parameter::FullState,
             is_no_truth(parameter(query, "full_state")),
         ),
-        (Parameter::Timeout, is_no_zero(parameter(query, "timeout"))),
+        (
+            Parameter::Timeout,
+            is_no_timeout(parameter(query, "timeout")),
+        ),
         (Parameter::Filter, is_no_filter(parameter(query, "filter"))),
     ];
     first_wrong(query, judged.as_slice())
@@ -40,6 +45,17 @@ pub(crate) fn is_full(query: &[(Text, Text)]) -> bool
     match parameter(query, "full_state") {
         Some(text) => text.as_str() == "true",
         None => false,
+    }
+}
+
+/// How long the sync may wait, in milliseconds: not at all where the query doesn't say, and at most 300,000.
+pub(crate) fn timeout_in(query: &[(Text, Text)]) -> u64
+    ensures timeout { result ≡ timeout_in query.now }
+    ensures cut { result ≤ 300000 }
+{
+    match parameter(query, "timeout") {
+        Some(text) => number_within(text, MOST_TIMEOUT).unwrap_or(0),
+        None => 0,
     }
 }
 
@@ -67,26 +83,13 @@ fn is_truth(value: &str) -> bool
     value == "true" || value == "false"
 }
 
-fn is_no_zero(value: Option<&Text>) -> bool
-    ensures { result ≡ is_wrong is_zero (option_map (λ v. v.now) value.entry) }
+fn is_no_timeout(value: Option<&Text>) -> bool
+    ensures { result ≡ is_wrong is_timeout (option_map (λ v. v.now) value.entry) }
 {
     match value {
-        Some(text) => !is_zero(text.as_str().as_bytes()),
+        Some(text) => number_within(text, MOST_TIMEOUT).is_none(),
         None => false,
     }
-}
-
-/// Whether the digits say 0.
-fn is_zero(value: &[u8]) -> bool
-    ensures { result ≡ is_zero value.now }
-{
-    !value.is_empty() && all_zero(value)
-}
-
-fn all_zero(value: &[u8]) -> bool
-    ensures { result ≡ list_all (λ b. b == 48) value.now }
-{
-    value.iter().all(|byte| *byte == b'0')
 }
 
 fn is_no_filter(value: Option<&Text>) -> bool

@@ -132,6 +132,8 @@ pub enum Ask {
         since: Option<SyncToken>,
         filter: FilterAsk,
         full_state: bool,
+        /// How long it may wait for something to tell, in milliseconds, at most 300,000.
+        timeout: u64,
     },
     /// To store a filter (`POST /user/{userId}/filter`).
     PutFilter {

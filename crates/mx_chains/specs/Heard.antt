@@ -60,7 +60,7 @@ page_asked (Some room) backward from to limit filter = cond backward (page_from_
 
 -- what a request asks, on what the streams cover
 abbrev pub asked_of : Site → Lists → Who → Ask → fold.Ask
-asked_of site l who (ask.Sync since filter full) = sync_asked since full (filter_for l who.user filter)
+asked_of site l who (ask.Sync since filter full timeout) = sync_asked since full (filter_for l who.user filter)
 asked_of site l who (ask.Messages room backward from to limit filter) = page_asked (room_of site room) backward from to limit filter
 asked_of site l who other = Else
 

@@ -1,8 +1,7 @@
 -- What a clause reads of an engine and of its passes.
-use Rattle.std.specs.Prelude.{◌≡◌, ℕ, ◌<◌, ◌≤◌}
+use Rattle.std.specs.Prelude.{◌≡◌, ℕ, ◌<◌, ◌≤◌, length, take}
 use Rattle.mx_front.specs.Shown.{place_of, place_of_pass, reads, seen_by, stop_of}
 use Rattle.mx_writers.specs.declared.gate.Gate.{Ghosts}
-use Rattle.mx_core.specs.History.{Begins}
 use Rattle.mx_fold.specs.Lists.{Histories, Lists, lists_of}
 use Rattle.mx_rest.specs.Servers as snapshots
 use Rattle.mx_engine.specs.Answers.{Act, IsDone, Stops, made_for}
@@ -25,9 +24,9 @@ known_of p = snapshots.lists_of p.snapshot
 
 -- of each stream it begins what is covered
 pub record IsKnown (known all : Lists) : Type 0 where
-  pub events : Begins known.events all.events
-  pub receipts : Begins known.receipts all.receipts
-  pub accounts : Begins known.accounts all.accounts
+  pub events : known.events ≡ take (length known.events) all.events
+  pub receipts : known.receipts ≡ take (length known.receipts) all.receipts
+  pub accounts : known.accounts ≡ take (length known.accounts) all.accounts
 
 -- how many stores of each stream were made with a pass, modulo 2^64
 abbrev pub made_of : EnginePass → Counts
@@ -57,13 +56,7 @@ module _ {G : Type 0} {g : Ghosts G} where
   abbrev pub site_of : Engine G g → Site
   site_of e = aims.site_of e.site
 
-  -- the pass is one of the engine's streams
-  pub record IsSeated (e : Engine G g) (p : EnginePass) : Type 0 where
-    pub events : place_of_pass p.events.pass ≡ place_of e.events.stream
-    pub receipts : place_of_pass p.receipts.pass ≡ place_of e.receipts.stream
-    pub accounts : place_of_pass p.accounts.pass ≡ place_of e.accounts.stream
-
-  -- it is, and what it keeps begins what it has seen
+  -- the pass is one of the engine's streams, and what it keeps begins what it has seen
   pub record Ties (e : Engine G g) (p : EnginePass) : Type 0 where
     pub events : place_of_pass p.events.pass ≡ place_of e.events.stream
     pub receipts : place_of_pass p.receipts.pass ≡ place_of e.receipts.stream

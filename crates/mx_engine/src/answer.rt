@@ -19,7 +19,7 @@ impl<G: Gate + Drop> Engine<G> {
     /// Answers what a user asks (*Answer*), on what the pass has then seen: at least what it had seen before. `now` is the
     /// clock's reading of the request, in milliseconds since 1970. The pass is one of this engine's. A refusal stores nothing, but
     /// for `m.fully_read` of a call whose receipts then find their stream full.
-    /// Waits for turns at the streams.
+    /// A sync is answered at once, whatever its timeout. Waits for turns at the streams.
     pub fn answer<R: Wait>(
         &self,
         rt: &R,
@@ -118,7 +118,8 @@ impl<G: Gate + Drop> Engine<G> {
                 since,
                 filter,
                 full_state,
-            } => self.sync(rt, alloc, pass, now, who, since, filter, full_state),
+                timeout: _,
+            } => self.sync(rt, alloc, pass, now, who, since, &filter, full_state),
             Ask::JoinedRooms => self.joined_rooms(rt, alloc, pass, now, who),
             Ask::GetState { room, kind, key } => {
                 self.state_content(rt, alloc, pass, now, who, &room, &kind, &key)

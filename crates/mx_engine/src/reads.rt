@@ -6,6 +6,8 @@ ghost use Rattle.mx_aims.specs.Asked.{room_of};
 ghost use Rattle.mx_engine.specs.Answers.{Reads};
 ghost use Rattle.mx_engine.specs.Shown.{IsDoneBy, Ties, site_of};
 ghost use Rattle.mx_rest.specs.Servers.{AreValid, lists_of};
+ghost use Rattle.std.specs.Option.{option_copied};
+ghost use Rattle.mx_user_reads.specs.Filters.{filter_named};
 
 use crate::answered::Answered;
 use crate::held::{Engine, EnginePass};
@@ -16,14 +18,16 @@ use mx_pager::{Bound, PageAsk, PageFault, page};
 use mx_room_reads::has_room;
 use mx_snapshot::Snapshot;
 use mx_sync::{SyncAsk, SyncFault, reply};
-use mx_user_reads::filter_for;
+use mx_user_reads::filter_named;
 use mx_writers::Gate;
 use std::alloc::Global;
 use std::sync::Wait;
 
 impl<G: Gate + Drop> Engine<G> {
-    /// `GET /sync`.
-    pub(crate) fn sync<R: Wait>(
+    /// The answer to a sync (Client-Server API, `GET /sync`), at once: it doesn't wait until there is something to tell. The pass is one
+    /// of this engine's. Refused as `NotFound` exactly where the sync asks by a stored filter and the user has none of the id, or one
+    /// that isn't read, and as `TokenAhead` where a component of `since` is past its stream's front. Waits for turns at the streams.
+    pub fn sync<R: Wait>(
         &self,
         rt: &R,
         alloc: Global,
@@ -31,11 +35,11 @@ impl<G: Gate + Drop> Engine<G> {
         now: u64,
         who: &Who,
         since: Option<SyncToken>,
-        filter: FilterAsk,
+        filter: &FilterAsk,
         full_state: bool,
     ) -> Answered
         requires ties { Ties self.now pass.old }
-        ensures done { IsDoneBy self.now now (Reads (λ l. told.sync_said l who.now.user since filter full_state)) pass.old pass.new result }
+        ensures done { IsDoneBy self.now now (Reads (λ l. told.sync_said l who.now.user since filter.now full_state)) pass.old pass.new result }
     {
         let Ok(()) = self.look(rt, alloc, pass) else {
             return pass.no_memory(now);
@@ -90,13 +94,32 @@ fn sync_said(
     snapshot: &Snapshot,
     user: &UserId,
     since: Option<SyncToken>,
-    filter: FilterAsk,
+    filter: &FilterAsk,
     full_state: bool,
 ) -> Result<Said, Memory>
     requires valid { AreValid (lists_of snapshot.now) }
-    ensures { IfOk result (λ said. said ≡ told.sync_said (lists_of snapshot.now) user.now since filter full_state) }
+    ensures { IfOk result (λ said. said ≡ told.sync_said (lists_of snapshot.now) user.now since filter.now full_state) }
 {
-    match filter_for(alloc, snapshot, user, filter)? {
+    match filter {
+        FilterAsk::Absent => sync_named(alloc, snapshot, user, since, None, full_state),
+        FilterAsk::Stored(id) => sync_named(alloc, snapshot, user, since, Some(id), full_state),
+        FilterAsk::Inline(filter) => sync_told(alloc, snapshot, user, since, filter, full_state),
+    }
+}
+
+/// What a sync is told that has no filter of its own, but names a stored one, or none.
+fn sync_named(
+    alloc: Global,
+    snapshot: &Snapshot,
+    user: &UserId,
+    since: Option<SyncToken>,
+    id: Option<&Text>,
+    full_state: bool,
+) -> Result<Said, Memory>
+    requires valid { AreValid (lists_of snapshot.now) }
+    ensures { IfOk result (λ said. said ≡ told.sync_by (lists_of snapshot.now) user.now since full_state (filter_named (lists_of snapshot.now) user.now (option_copied id.entry))) }
+{
+    match filter_named(alloc, snapshot, user, id)? {
         Some(filter) => sync_told(alloc, snapshot, user, since, &filter, full_state),
         None => Ok(Said::Refused(Refusal::NotFound)),
     }

@@ -41,8 +41,13 @@ stored_filter l user id = told (filter_stored l user id)
 abbrev pub filter_read : Json → Option Filter
 filter_read j = if is_none (wrong_filter j) && not (is_federation j) then Some (filter_of j) else None
 
+-- the stored filter of an id, if it is there and is read; where none is named, one that lets all pass
+abbrev pub filter_named : Lists → List ℕ → Option (List ℕ) → Option Filter
+filter_named l user None = Some (filter_by None None)
+filter_named l user (Some id) = option_and_then filter_read (filter_stored l user id)
+
 -- the filter that a sync asks by, unless it asks by a stored one that isn't there
 abbrev pub filter_for : Lists → List ℕ → FilterAsk → Option Filter
-filter_for l user asks.Absent = Some (filter_by None None)
-filter_for l user (asks.Stored id) = option_and_then filter_read (filter_stored l user id)
+filter_for l user asks.Absent = filter_named l user None
+filter_for l user (asks.Stored id) = filter_named l user (Some id)
 filter_for l user (asks.Inline filter) = Some filter

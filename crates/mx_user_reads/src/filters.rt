@@ -3,11 +3,11 @@
 ghost use Rattle.std.specs.Prelude.{◌≡◌, IfOk, option_and_then};
 ghost use Rattle.std.specs.Option.{option_copied};
 ghost use Rattle.mx_rest.specs.Servers.{lists_of};
-ghost use Rattle.mx_user_reads.specs.Filters.{filter_for, filter_in, filter_read, filter_stored, first_filter, number_of, stored_filter};
+ghost use Rattle.mx_user_reads.specs.Filters.{filter_in, filter_named, filter_read, filter_stored, first_filter, number_of, stored_filter};
 
 use crate::told::told_copy;
 use mx_account::Entry;
-use mx_ask::{FilterAsk, Said};
+use mx_ask::Said;
 use mx_filter::{Filter, FilterFault, everything, read};
 use mx_ids::{Memory, Text, UserId};
 use mx_json::Json;
@@ -31,23 +31,22 @@ pub fn stored_filter(
     told_copy(alloc, filter)
 }
 
-/// The filter that a sync asks by (Client-Server API, Filtering): one that lets all pass where it asks by none, the one that
-/// it has, or the user's stored filter of the id.
+/// The filter by which a sync asks that has none of its own (Client-Server API, Filtering): the user's stored filter of the
+/// id that it names, or one that lets all pass where it names none.
 ///
-/// `None` exactly where it asks by a stored filter and the user has none of the id, or one that isn't read. Takes the time of
-/// all account data where it asks by a stored filter.
-pub fn filter_for(
+/// `None` exactly where the user has no filter of the id, or one that isn't read. Takes the time of all account data where an id is
+/// named.
+pub fn filter_named(
     alloc: Global,
     snapshot: &Snapshot,
     user: &UserId,
-    ask: FilterAsk,
+    id: Option<&Text>,
 ) -> Result<Option<Filter>, Memory>
-    ensures { IfOk result (λ o. o ≡ filter_for (lists_of snapshot.now) user.now ask) }
+    ensures { IfOk result (λ o. o ≡ filter_named (lists_of snapshot.now) user.now (option_copied id.entry)) }
 {
-    match ask {
-        FilterAsk::Absent => Ok(Some(everything(alloc)?)),
-        FilterAsk::Stored(id) => read_stored(alloc, snapshot, user, &id),
-        FilterAsk::Inline(filter) => Ok(Some(filter)),
+    match id {
+        Some(id) => read_stored(alloc, snapshot, user, id),
+        None => Ok(Some(everything(alloc)?)),
     }
 }
 

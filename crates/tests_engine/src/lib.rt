@@ -2,6 +2,8 @@
 #![tactic(auto)]
 
 #[cfg(test)]
+mod polls;
+#[cfg(test)]
 mod rooms;
 #[cfg(test)]
 mod writers;

@@ -22,7 +22,7 @@ fn text(rt: &impl Abort, alloc: Global, s: &str) -> Text
     Text::from_string(String::from_str(alloc, s).expect(rt, "memory"))
 }
 
-fn user(rt: &impl Abort, alloc: Global, name: &str) -> UserId {
+pub fn user(rt: &impl Abort, alloc: Global, name: &str) -> UserId {
     let id = format!(in alloc; "@{name}:x").expect(rt, "memory");
     user_id(Text::from_string(id)).expect(rt, "a user id")
 }
@@ -161,7 +161,7 @@ fn member_ask(call: &str, room: Text, user: Text) -> Ask
 }
 
 /// An engine of one writer, and a pass.
-fn one_writer(rt: &impl Abort, alloc: Global, stop: u64) -> (Engine<Open>, EnginePass)
+pub fn one_writer(rt: &impl Abort, alloc: Global, stop: u64) -> (Engine<Open>, EnginePass)
     requires stop { stop ≤ 281474976694272 }
     ensures ties { Ties result.0 result.1 }
 {

@@ -1,0 +1,2 @@
+mod AtOnce
+mod Later

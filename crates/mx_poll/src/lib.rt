@@ -1,0 +1,7 @@
+//! The answers to what users ask, of which a sync waits until there is something to tell.
+#![tactic(auto)]
+
+mod answering;
+mod syncs;
+
+pub use answering::answer;
