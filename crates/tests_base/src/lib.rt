@@ -30,3 +30,5 @@ mod sources_and_sinks;
 mod users_file;
 #[cfg(test)]
 mod waits;
+#[cfg(test)]
+mod words;
