@@ -92,20 +92,20 @@ module _ (site : Site) (stops : Stops) where
 
   -- ---- where the engine isn't asked
 
-  idle_responds : (asks : CallAsked) (memory : Bool) (now : ℕ) (lists : Histories) (m : Mark) (status : ℕ) (text : List ℕ) → m ≡ blank memory now lists
+  idle_responds : (asks : CallAsked) (memory : Bool) (last now : ℕ) (lists : Histories) (m : Mark) (status : ℕ) (text : List ℕ) → last ≡ now → m ≡ blank memory now lists
       → KeepsCall site stops asks (blank memory now lists) (counts_of lists) lists lists → response status text ≡ response_to site lists (blank memory now lists) asks
-      → Responds site stops asks now lists lists m status text
-  idle_responds asks memory now lists m status text is keeps told =
-      subst (λ n. Responds site stops asks now lists lists n status text) (sym is)
-      (record { marks = record { now_is = refl; seen = refl; begins = all_self lists; keeps = keeps }; is = told })
+      → Responds site stops asks last lists lists m status text
+  idle_responds asks memory last now lists m status text read is keeps told =
+      subst (λ n. Responds site stops asks last lists lists n status text) (sym is)
+      (record { marks = record { now_is = sym read; seen = refl; begins = all_self lists; keeps = keeps }; is = told })
 
-  pub options_responds : (now : ℕ) (lists : Histories) (m : Mark) (status : ℕ) (text : List ℕ) → m ≡ blank false now lists → response status text ≡ asked_response site lists m call.Options
-      → Responds site stops call.Options now lists lists m status text
-  options_responds now lists m status text is told = idle_responds call.Options false now lists m status text is (idle_blank false now lists) told
+  pub options_responds : (last now : ℕ) (lists : Histories) (m : Mark) (status : ℕ) (text : List ℕ) → last ≡ now → m ≡ blank false now lists → response status text ≡ asked_response site lists m call.Options
+      → Responds site stops call.Options last lists lists m status text
+  options_responds last now lists m status text read is told = idle_responds call.Options false last now lists m status text read is (idle_blank false now lists) told
 
-  pub versions_responds : (now : ℕ) (lists : Histories) (m : Mark) (status : ℕ) (text : List ℕ) → m ≡ blank false now lists → response status text ≡ asked_response site lists m call.Versions
-      → Responds site stops call.Versions now lists lists m status text
-  versions_responds now lists m status text is told = idle_responds call.Versions false now lists m status text is (idle_blank false now lists) told
+  pub versions_responds : (last now : ℕ) (lists : Histories) (m : Mark) (status : ℕ) (text : List ℕ) → last ≡ now → m ≡ blank false now lists → response status text ≡ asked_response site lists m call.Versions
+      → Responds site stops call.Versions last lists lists m status text
+  versions_responds last now lists m status text read is told = idle_responds call.Versions false last now lists m status text read is (idle_blank false now lists) told
 
   blank_kept : (asks : CallAsked) (now : ℕ) (lists : Histories) → KeepsCall site stops asks (blank true now lists) (counts_of lists) lists lists
   blank_kept call.Options now lists = idle_blank true now lists
@@ -115,9 +115,9 @@ module _ (site : Site) (stops : Stops) where
       (none_done stops (asked site now r.who r.ask) now lists lists (record { said = said.NoMemory; mark = blank true now lists }) (all_self lists) refl refl).keeps
 
   -- memory was wanting for what is asked, or for its refusal
-  pub wanting_responds : (asks : CallAsked) (now : ℕ) (lists : Histories) (m : Mark) (status : ℕ) (text : List ℕ) → m ≡ blank true now lists → status ≡ 503 → text ≡ no_memory_text
-      → Responds site stops asks now lists lists m status text
-  wanting_responds asks now lists m status text is st tx = idle_responds asks true now lists m status text is (blank_kept asks now lists) (same_response status 503 text no_memory_text st tx)
+  pub wanting_responds : (asks : CallAsked) (last now : ℕ) (lists : Histories) (m : Mark) (status : ℕ) (text : List ℕ) → last ≡ now → m ≡ blank true now lists → status ≡ 503 → text ≡ no_memory_text
+      → Responds site stops asks last lists lists m status text
+  wanting_responds asks last now lists m status text read is st tx = idle_responds asks true last now lists m status text read is (blank_kept asks now lists) (same_response status 503 text no_memory_text st tx)
 
   -- ---- what the engine answers
 
@@ -126,7 +126,7 @@ module _ (site : Site) (stops : Stops) where
   told_response server device true s told is = ap (λ x. response (said_status x) (said_text server device x)) is
   told_response server device false s told is = ap (λ x. response (said_status x) (said_text server device x)) is
 
-  pub answered_responds : (who : Who) (ask : Ask) (now : ℕ) (old new : Histories) (a : Answered) (m : Mark) (status : ℕ) (text : List ℕ) → IsAnswered site stops now who ask old new a → a.mark.now ≡ now
+  answered_responds : (who : Who) (ask : Ask) (now : ℕ) (old new : Histories) (a : Answered) (m : Mark) (status : ℕ) (text : List ℕ) → IsAnswered site stops now who ask old new a → a.mark.now ≡ now
       → Renders site.users.server who.device a m status text → Responds site stops (call.Request (record { who = who; ask = ask })) now old new m status text
   answered_responds who ask now old new a m status text h at (inl r) =
       let act = λ (n : ℕ). asked site n who ask in
@@ -146,6 +146,13 @@ module _ (site : Site) (stops : Stops) where
         marks = record { now_is = at; seen = h.seen; begins = h.begins; keeps = subst (λ k. KeepsAct stops (act k) n old new) (sym at) (wanting (act now) a.mark old new h.keeps) };
         is = same_response status 503 text no_memory_text r.1 r.2;
       })
+
+  -- the same by the clock's last reading
+  pub polled_responds : (who : Who) (ask : Ask) (last : ℕ) (old new : Histories) (a : Answered) (m : Mark) (status : ℕ) (text : List ℕ) → last ≡ a.mark.now → IsAnswered site stops a.mark.now who ask old new a
+      → Renders site.users.server who.device a m status text → Responds site stops (call.Request (record { who = who; ask = ask })) last old new m status text
+  polled_responds who ask last old new a m status text read h renders =
+      subst (λ n. Responds site stops (call.Request (record { who = who; ask = ask })) n old new m status text) (sym read)
+      (answered_responds who ask a.mark.now old new a m status text h refl renders)
 
   -- ---- the bytes
 

@@ -1,23 +1,28 @@
 //! The answer to a call.
-ghost use Rattle.std.specs.Prelude.{◌≡◌, IfOk};
+ghost use Rattle.std.specs.Prelude.{◌≡◌, ◌≤◌, IfOk};
 ghost use Rattle.mx_api.specs.Errors.{refused_json, refused_status};
 ghost use Rattle.mx_engine.specs.Answers.{IsAnswered, reading};
 ghost use Rattle.mx_engine.specs.Shown.{Ties, stores_of, site_of, stops_of};
 ghost use Rattle.mx_http.specs.Answers.{body_text};
 ghost use Rattle.mx_json.specs.Texts.{json_text};
+ghost use Rattle.mx_outside.specs.Readings.{most_reading};
 ghost use Rattle.mx_serve.specs.Asked.{IsCallAsked, call_asked};
 ghost use Rattle.mx_serve.specs.Steps.{Responds, Renders};
 
-use crate::call_asked::{CallAsked, Routes};
+use crate::call_asked::CallAsked;
+use crate::server::Server;
 use mx_api::{Refused, refused_json};
 use mx_ask::Request;
-use mx_engine::{Answered, Engine, EnginePass, Mark};
+use mx_engine::{Answered, EnginePass, Mark};
 use mx_http::{Answer, Body, Call};
 use mx_ids::Memory;
+use mx_outside::Clock;
+use mx_poll::answer;
 use mx_render::{no_memory, render};
 use mx_users::Directory;
 use mx_writers::Gate;
 use std::alloc::Global;
+use std::rt;
 use std::sync::Wait;
 
 /// The answer to a call, and its mark.
@@ -27,39 +32,45 @@ pub struct Reply {
     pub mark: Mark,
 }
 
-/// Answers a call, on what the pass has then seen. Waits for turns at the streams.
-pub fn respond<G: Gate + Drop, R: Wait>(
+/// Answers a call, on what the pass has then seen. `now` is the clock's last reading. Waits for turns at the streams, and rests in syncs
+/// with a `timeout`.
+pub fn respond<G: Gate + Drop, R: Wait + rt::Clock, C: Clock>(
     rt: &R,
     alloc: Global,
-    engine: &Engine<G>,
-    routes: &Routes,
+    server: &Server<G>,
     pass: &mut EnginePass,
     call: &Call,
     now: u64,
+    clock: &mut C,
 ) -> Reply
-    requires ties { Ties engine.now pass.old }
-    ensures ties { Ties engine.now pass.new }
-    ensures responds { Responds (site_of engine.now) (stops_of engine.now) (call_asked engine.now.site.users call.now) now (stores_of pass.old) (stores_of pass.new) result.mark result.answer.status (body_text result.answer.body) }
+    requires ties { Ties server.now.engine pass.old }
+    requires last { C.last clock.old ≡ now }
+    requires most { now ≤ most_reading }
+    ensures ties { Ties server.now.engine pass.new }
+    ensures responds { Responds (site_of server.now.engine) (stops_of server.now.engine) (call_asked server.now.engine.site.users call.now) (C.last clock.new) (stores_of pass.old) (stores_of pass.new) result.mark result.answer.status (body_text result.answer.body) }
 {
-    match routes.ask(alloc, call, engine.users()) {
-        Ok(asked) => respond_to(rt, alloc, engine, pass, asked, now),
+    match server.routes.ask(alloc, call, server.engine.users()) {
+        Ok(asked) => respond_to(rt, alloc, server, pass, asked, now, clock),
         Err(_) => idle(pass, no_memory(), now, true),
     }
 }
 
 /// Answers what a call asks.
-fn respond_to<G: Gate + Drop, R: Wait>(
+fn respond_to<G: Gate + Drop, R: Wait + rt::Clock, C: Clock>(
     rt: &R,
     alloc: Global,
-    engine: &Engine<G>,
+    server: &Server<G>,
     pass: &mut EnginePass,
     asked: CallAsked,
     now: u64,
+    clock: &mut C,
 ) -> Reply
-    requires ties { Ties engine.now pass.old }
+    requires ties { Ties server.now.engine pass.old }
+    requires last { C.last clock.old ≡ now }
+    requires most { now ≤ most_reading }
     requires ask { IsCallAsked asked }
-    ensures ties { Ties engine.now pass.new }
-    ensures responds { Responds (site_of engine.now) (stops_of engine.now) asked now (stores_of pass.old) (stores_of pass.new) result.mark result.answer.status (body_text result.answer.body) }
+    ensures ties { Ties server.now.engine pass.new }
+    ensures responds { Responds (site_of server.now.engine) (stops_of server.now.engine) asked (C.last clock.new) (stores_of pass.old) (stores_of pass.new) result.mark result.answer.status (body_text result.answer.body) }
 {
     match asked {
         CallAsked::Options => idle(pass, fixed(b"{}"), now, false),
@@ -72,8 +83,18 @@ fn respond_to<G: Gate + Drop, R: Wait>(
             Err(_) => idle(pass, no_memory(), now, true),
         },
         CallAsked::Request(Request { who, ask }) => {
-            let answered = engine.answer(rt, alloc, pass, &who, ask, now);
-            rendered(alloc, engine.users(), who.device, answered)
+            let answered = answer(
+                rt,
+                alloc,
+                &server.engine,
+                &server.waiters,
+                pass,
+                &who,
+                ask,
+                now,
+                clock,
+            );
+            rendered(alloc, server.engine.users(), who.device, answered)
         }
     }
 }

@@ -2,8 +2,8 @@
 #![tactic(auto)]
 
 use mx_ids::Memory;
-use mx_outside::{HostClock, HostFiles, StdErr, StdIn, StdOut};
-use mx_serve::{Status, run, tell};
+use mx_outside::{HostClock, HostFiles, Spawner, StdErr, StdIn, StdOut, TcpAccept};
+use mx_pool::{Status, run, tell};
 use std::env;
 use std::io::ErrorKind;
 use std::process::ExitCode;
@@ -14,10 +14,15 @@ fn main(rt: HostRuntime) -> ExitCode {
         tell(&mut errors, Status::Memory);
         return ExitCode::from(Status::Memory.number());
     };
+    let Ok(mut spawner) = Spawner::in_threads(rt.alloc()) else {
+        tell(&mut errors, Status::Memory);
+        return ExitCode::from(Status::Memory.number());
+    };
     let mut files = HostFiles::new(rt);
     let mut input = StdIn::new(rt.stdin());
     let mut output = StdOut::new(rt.stdout());
     let mut clock = HostClock::new(rt);
+    let mut listener = TcpAccept::new(rt);
     let ran = run(
         &rt,
         rt.alloc(),
@@ -27,6 +32,8 @@ fn main(rt: HostRuntime) -> ExitCode {
         &mut output,
         &mut errors,
         &mut clock,
+        &mut listener,
+        &mut spawner,
     );
     ExitCode::from(ran.status.number())
 }

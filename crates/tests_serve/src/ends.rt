@@ -5,8 +5,10 @@ use crate::sessions::{Session, read_table};
 use mx_ids::Memory;
 use std::alloc::Global;
 use std::process::Abort;
+use std::rt;
 use std::sync::Wait;
 use std::test::Fail;
+use std::thread::Threads;
 
 const VERSIONS: &str = r#"{"unstable_features":{},"versions":["v1.11"]}"#;
 
@@ -45,7 +47,7 @@ fn thousand(alloc: Global, more: &str) -> Result<Session, Memory> {
 }
 
 /// A connection with 999 requests and more ends after 1,000 answers, and the run with this status.
-fn ends_after_thousand<R: Abort + Wait>(
+fn ends_after_thousand<R: Abort + Wait + rt::Clock + Threads + Copy + Drop + Send + 'static>(
     rt: &R,
     alloc: Global,
     more: &str,
@@ -109,7 +111,7 @@ fn a_length_that_is_none_is_answered_once(rt: HostRuntime) -> Result<(), Fail> {
 }
 
 /// A run with a users file of 35 bytes and so many empty lines ends with this status.
-fn ends_by_lines<R: Abort + Wait>(
+fn ends_by_lines<R: Abort + Wait + rt::Clock + Threads + Copy + Drop + Send + 'static>(
     rt: &R,
     alloc: Global,
     lines: usize,

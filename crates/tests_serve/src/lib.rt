@@ -2,11 +2,15 @@
 #![tactic(auto)]
 
 #[cfg(test)]
+mod at_once;
+#[cfg(test)]
 mod default_rules;
 #[cfg(test)]
 mod ends;
 #[cfg(test)]
 mod make;
+#[cfg(test)]
+mod meeting;
 #[cfg(test)]
 mod refusal_tables;
 #[cfg(test)]
@@ -15,6 +19,8 @@ mod refusals;
 mod rooms;
 #[cfg(test)]
 mod runs;
+#[cfg(test)]
+mod servers;
 #[cfg(test)]
 mod sessions;
 #[cfg(test)]
@@ -27,3 +33,5 @@ mod tables;
 mod user_data;
 #[cfg(test)]
 mod user_tables;
+#[cfg(test)]
+mod whole_sink;

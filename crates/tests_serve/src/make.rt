@@ -1,15 +1,17 @@
 //! Runs of the program over sources, sinks and files in memory, and the bytes of answers.
 use mx_ids::Memory;
-use mx_outside::{MemFile, MemFiles, MemSink, MemSource, StepClock};
-use mx_serve::run;
+use mx_outside::{MemFile, MemFiles, MemListener, MemSink, MemSource, Spawner, StepClock};
+use mx_pool::run;
 use std::alloc::Global;
 use std::process::Abort;
+use std::rt;
 use std::sync::Wait;
+use std::thread::Threads;
 
-const USERS: &str = "\nserver example.org\n\nalice A1 tok_a1\nbob B1 tok_b1\ncarol C1 tok_c1";
+pub const USERS: &str = "\nserver example.org\n\nalice A1 tok_a1\nbob B1 tok_b1\ncarol C1 tok_c1";
 
 /// The number of a call that isn't made.
-const NEVER: u64 = 1_000_000;
+pub const NEVER: u64 = 1_000_000;
 
 /// What a run is given.
 #[derive(Clone, Copy)]
@@ -64,7 +66,7 @@ pub fn sink(alloc: Global, failing: u64) -> Result<MemSink, Memory> {
 }
 
 /// A run ends with this status, and writes this to the output and to the errors.
-pub fn expect<R: Abort + Wait>(
+pub fn expect<R: Abort + Wait + rt::Clock + Threads + Copy + Drop + Send + 'static>(
     rt: &R,
     alloc: Global,
     case: &Case,
@@ -77,7 +79,7 @@ pub fn expect<R: Abort + Wait>(
 }
 
 /// The same of a run with these words.
-pub fn expect_by<R: Abort + Wait>(
+pub fn expect_by<R: Abort + Wait + rt::Clock + Threads + Copy + Drop + Send + 'static>(
     rt: &R,
     alloc: Global,
     words: &[String],
@@ -96,7 +98,7 @@ pub fn expect_by<R: Abort + Wait>(
 }
 
 /// The status of a run with these words.
-fn status_of<R: Abort + Wait>(
+fn status_of<R: Abort + Wait + rt::Clock + Threads + Copy + Drop + Send + 'static>(
     rt: &R,
     alloc: Global,
     words: &[String],
@@ -107,8 +109,20 @@ fn status_of<R: Abort + Wait>(
     let mut files = files(alloc, case.users)?;
     let mut input = source(alloc, case)?;
     let mut clock = StepClock::new(1000, 1);
+    let pairs: Vec<(MemSource, MemSink)> = Vec::new(alloc);
+    let mut listener = MemListener::new(pairs, Vec::new(alloc));
+    let mut spawner = Spawner::in_caller(Vec::new(alloc));
     let ran = run(
-        rt, alloc, words, &mut files, &mut input, output, errors, &mut clock,
+        rt,
+        alloc,
+        words,
+        &mut files,
+        &mut input,
+        output,
+        errors,
+        &mut clock,
+        &mut listener,
+        &mut spawner,
     );
     Ok(ran.status.number())
 }

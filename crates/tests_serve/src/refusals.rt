@@ -1,19 +1,20 @@
 //! What is refused, table by table, and by full streams.
 
-ghost use Rattle.std.specs.Prelude.{◌≤◌};
+ghost use Rattle.std.specs.Prelude.{◌≤◌, IfOk};
 ghost use Rattle.mx_engine.specs.Shown.{Ties};
 
 use crate::make::{Case, sink, source, usual_case};
 use crate::refusal_tables;
 use crate::sessions::{holds, read_table};
-use mx_engine::{Engine, EnginePass, Setup, engine};
+use mx_engine::{EnginePass, Setup, engine};
 use mx_ids::Memory;
 use mx_outside::{MemSink, StepClock};
-use mx_serve::{End, Routes, serve_connection};
+use mx_serve::{End, Server, serve_connection};
 use mx_users::read_users;
 use mx_writers::Open;
 use std::alloc::Global;
 use std::process::Abort;
+use std::rt;
 use std::sync::Wait;
 use std::test::Fail;
 
@@ -70,61 +71,44 @@ fn an_event_that_is_too_large_is_told_in_its_place(rt: HostRuntime) -> Result<()
     Ok(())
 }
 
-/// An engine whose streams have this stop, and a pass.
-fn engine_up_to(
+/// A server on an engine whose streams have this stop, and a pass.
+fn server_up_to(
     rt: &impl Abort,
     alloc: Global,
     users: &str,
     stop: u64,
-) -> (Engine<Open>, EnginePass)
+) -> Result<(Server<Open>, EnginePass), Memory>
     requires stop { stop ≤ 281474976694272 }
-    ensures ties { Ties result.0 result.1 }
+    ensures ties { IfOk result (λ r. Ties r.0.engine r.1) }
 {
     let setup = Setup {
         users: read_users(alloc, users.as_bytes()).expect(rt, "a users file"),
         workers: 1,
         stop,
     };
-    engine(alloc, setup, Open).expect(rt, "memory")
+    let (engine, pass) = engine(alloc, setup, Open)?;
+    Ok((Server::new(alloc, engine)?, pass))
 }
 
 /// The end of a connection that a pass serves.
-fn end_on<R: Abort + Wait>(
+fn end_on<R: Abort + Wait + rt::Clock>(
     rt: &R,
     alloc: Global,
-    engine: &Engine<Open>,
+    server: &Server<Open>,
     pass: &mut EnginePass,
-    routes: &Routes,
     case: &Case,
     output: &mut MemSink,
 ) -> Result<End, Memory>
-    requires ties { Ties engine.now pass.old }
+    requires ties { Ties server.now.engine pass.old }
 {
     let mut input = source(alloc, case)?;
     let mut clock = StepClock::new(1000, 1);
-    let ended = serve_connection(
-        rt, alloc, engine, routes, pass, &mut input, output, &mut clock,
-    );
+    let ended = serve_connection(rt, alloc, server, pass, &mut input, output, &mut clock);
     Ok(ended.end)
 }
 
-/// The end of a connection to an engine whose streams have this stop.
-fn end_of<R: Abort + Wait>(
-    rt: &R,
-    alloc: Global,
-    routes: &Routes,
-    case: &Case,
-    stop: u64,
-    output: &mut MemSink,
-) -> Result<End, Memory>
-    requires { stop ≤ 281474976694272 }
-{
-    let (engine, mut pass) = engine_up_to(rt, alloc, case.users, stop);
-    end_on(rt, alloc, &engine, &mut pass, routes, case, output)
-}
-
-/// The same, with routes of its own.
-fn end_by<R: Abort + Wait>(
+/// The end of a connection to a server on an engine whose streams have this stop.
+fn end_by<R: Abort + Wait + rt::Clock>(
     rt: &R,
     alloc: Global,
     case: &Case,
@@ -133,12 +117,17 @@ fn end_by<R: Abort + Wait>(
 ) -> Result<End, Memory>
     requires { stop ≤ 281474976694272 }
 {
-    let routes = Routes::new(alloc)?;
-    end_of(rt, alloc, &routes, case, stop, output)
+    let (server, mut pass) = server_up_to(rt, alloc, case.users, stop)?;
+    end_on(rt, alloc, &server, &mut pass, case, output)
 }
 
 /// A connection to an engine whose streams have this stop is asked the calls of a table, and writes its answers.
-fn holds_up_to<R: Abort + Wait>(rt: &R, alloc: Global, table: &str, stop: u64) -> Result<(), Memory>
+fn holds_up_to<R: Abort + Wait + rt::Clock>(
+    rt: &R,
+    alloc: Global,
+    table: &str,
+    stop: u64,
+) -> Result<(), Memory>
     requires { stop ≤ 281474976694272 }
 {
     let session = read_table(alloc, table)?;

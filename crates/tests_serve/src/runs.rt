@@ -4,8 +4,10 @@ use crate::sessions::read_table;
 use mx_ids::Memory;
 use std::alloc::Global;
 use std::process::Abort;
+use std::rt;
 use std::sync::Wait;
 use std::test::Fail;
+use std::thread::Threads;
 
 #[test]
 fn other_words_end_a_run(rt: HostRuntime) -> Result<(), Fail> {
@@ -29,7 +31,7 @@ fn words_without_a_users_file_end_a_run(rt: HostRuntime) -> Result<(), Fail> {
 }
 
 /// A run with these users ends with status 3.
-fn refuses_users<R: Abort + Wait>(
+fn refuses_users<R: Abort + Wait + rt::Clock + Threads + Copy + Drop + Send + 'static>(
     rt: &R,
     alloc: Global,
     users: &str,

@@ -6,7 +6,9 @@ use crate::make::{Case, answer, expect, usual_case};
 use mx_ids::Memory;
 use std::alloc::Global;
 use std::process::Abort;
+use std::rt;
 use std::sync::Wait;
+use std::thread::Threads;
 
 /// The requests of a connection, and their answers.
 #[derive(Drop)]
@@ -111,7 +113,7 @@ fn phrase(status: &str) -> &'static str {
 }
 
 /// A run is asked the calls of a table, in pieces of so many bytes, and writes its answers.
-pub fn holds_by<R: Abort + Wait>(
+pub fn holds_by<R: Abort + Wait + rt::Clock + Threads + Copy + Drop + Send + 'static>(
     rt: &R,
     alloc: Global,
     table: &str,
@@ -126,6 +128,10 @@ pub fn holds_by<R: Abort + Wait>(
 }
 
 /// A run is asked the calls of a table, and writes its answers.
-pub fn holds<R: Abort + Wait>(rt: &R, alloc: Global, table: &str) -> Result<(), Memory> {
+pub fn holds<R: Abort + Wait + rt::Clock + Threads + Copy + Drop + Send + 'static>(
+    rt: &R,
+    alloc: Global,
+    table: &str,
+) -> Result<(), Memory> {
     holds_by(rt, alloc, table, 1000)
 }

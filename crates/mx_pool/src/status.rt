@@ -1,0 +1,65 @@
+//! How a run ends.
+ghost use Rattle.std.specs.Prelude.{◌≡◌};
+ghost use Rattle.mx_pool.specs.Runs.{number_of, server_status, status_of};
+
+use crate::serving::Served;
+use mx_serve::End;
+
+/// How a run ends.
+#[derive(Clone, Copy, Debug, PartialEq, Eq)]
+pub enum Status {
+    /// The connection ended after a request, or between two; or no connection comes to the server any more.
+    Done,
+    /// The connection ended otherwise: inside a request, on what is none, or at its last answer.
+    RequestStream,
+    /// The words aren't of their form.
+    Usage,
+    /// The first line of the users file that breaks its form, from 1; 0 where the file is too long.
+    UsersFile(u64),
+    /// The users file couldn't be read, or the input or the output failed.
+    Outside,
+    /// Want of memory.
+    Memory,
+    /// The listener failed, or the spawner refused a connection's job.
+    Listener,
+}
+
+impl Status {
+    /// The status of the process, 0 to 6.
+    pub fn number(self) -> u8
+        ensures { result ≡ number_of self }
+    {
+        match self {
+            Status::Done => 0,
+            Status::RequestStream => 1,
+            Status::Usage => 2,
+            Status::UsersFile(_) => 3,
+            Status::Outside => 4,
+            Status::Memory => 5,
+            Status::Listener => 6,
+        }
+    }
+}
+
+/// The status of a connection's end.
+pub(crate) fn status_of(end: End) -> Status
+    ensures { result ≡ status_of end }
+{
+    match end {
+        End::Closed | End::Asked => Status::Done,
+        End::Full | End::Cut | End::Refused => Status::RequestStream,
+        End::ReadFault | End::WriteFault => Status::Outside,
+        End::Memory => Status::Memory,
+    }
+}
+
+/// The status of a server's end.
+pub(crate) fn server_status(served: Served) -> Status
+    ensures { result ≡ server_status served }
+{
+    match served {
+        Served::Closed => Status::Done,
+        Served::ListenFailed | Served::StartRefused => Status::Listener,
+        Served::Memory => Status::Memory,
+    }
+}
