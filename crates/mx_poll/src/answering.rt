@@ -51,20 +51,24 @@ pub fn answer<G: Gate + Drop, R: Wait + rt::Clock, C: Clock>(
             filter,
             full_state,
             timeout,
-        } => sync(
-            rt,
-            alloc,
-            engine,
-            waiters,
-            pass,
-            who,
-            since,
-            &filter,
-            full_state,
-            now,
-            now + timeout,
-            clock,
-        ),
+        } => {
+            let answered = sync(
+                rt,
+                alloc,
+                engine,
+                waiters,
+                pass,
+                who,
+                since,
+                &filter,
+                full_state,
+                now,
+                now + timeout,
+                clock,
+            );
+            drop(filter);
+            answered
+        }
         other => at_once(rt, alloc, engine, waiters, pass, who, other, now),
     }
 }

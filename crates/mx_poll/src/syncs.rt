@@ -46,6 +46,7 @@ pub(crate) fn sync<G: Gate + Drop, R: Wait + rt::Clock, C: Clock>(
         if is_due(since, full_state, &answered.said, reading, deadline) {
             return answered;
         }
+        drop(answered);
         reading = clock.now();
         if reading < deadline {
             waiters.rest(rt, wakes, deadline - reading);
