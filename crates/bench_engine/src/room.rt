@@ -1,6 +1,7 @@
 //! A room that messages are sent to, and that is synced.
 
 ghost use Rattle.std.specs.Prelude.{◌≡◌, Some, IfOk, slice_get};
+ghost use Rattle.mx_ask.specs.Asks.{IsAsk};
 ghost use Rattle.mx_engine.specs.Shown.{Ties};
 
 use crate::words::{Timed, Wanted};
@@ -8,7 +9,9 @@ use mx_ask::{Ask, FilterAsk, Said, Who};
 use mx_create::wrong_field;
 use mx_engine::{Engine, EnginePass, Setup, engine};
 use mx_event::Txn;
-use mx_ids::{Copied, EventId, Memory, Seq, SyncToken, Text, write_event_id, write_room_id};
+use mx_ids::{
+    Copied, EventId, Memory, RoomId, Seq, SyncToken, Text, write_event_id, write_room_id,
+};
 use mx_json::{Json, Members, read};
 use mx_outside::Clock;
 use mx_receipt::ReceiptKind;
@@ -19,6 +22,16 @@ use std::sync::Wait;
 
 const USERS: &str = "server example.org\nalice A1 tok_a1\n";
 
+/// What the user is answered.
+#[derive(Clone, Copy)]
+enum Told {
+    Room(RoomId),
+    Sent(EventId),
+    Synced(SyncToken),
+    Done,
+    Other,
+}
+
 /// The milliseconds that what is wanted takes.
 pub fn measure<R: Wait, C: Clock>(
     rt: &R,
@@ -26,19 +39,45 @@ pub fn measure<R: Wait, C: Clock>(
     clock: &mut C,
     wanted: Wanted,
 ) -> Result<u64, Memory> {
-    let directory = read_users(alloc, USERS.as_bytes()).map_err(|_| Memory)?;
-    let who = who(alloc, &directory)?;
+    let (engine, mut pass) = started(alloc)?;
+    let took = measured(rt, alloc, clock, &engine, &mut pass, wanted);
+    drop(pass);
+    drop(engine);
+    took
+}
+
+/// An engine with one user, and a pass.
+fn started(alloc: Global) -> Result<(Engine<Open>, EnginePass), Memory>
+    ensures ties { IfOk result (λ r. Ties r.0 r.1) }
+{
+    let users = read_users(alloc, USERS.as_bytes()).map_err(|_| Memory)?;
     let setup = Setup {
-        users: directory,
+        users,
         workers: 1,
         stop: 281_474_976_694_272,
     };
-    let (engine, mut pass) = engine(alloc, setup, Open)?;
-    measured(rt, alloc, clock, &engine, &mut pass, &who, wanted)
+    engine(alloc, setup, Open)
 }
 
 /// The same on an engine without a room.
 fn measured<R: Wait, C: Clock>(
+    rt: &R,
+    alloc: Global,
+    clock: &mut C,
+    engine: &Engine<Open>,
+    pass: &mut EnginePass,
+    wanted: Wanted,
+) -> Result<u64, Memory>
+    requires ties { Ties engine.now pass.old }
+{
+    let who = who(alloc, engine.users())?;
+    let took = measured_by(rt, alloc, clock, engine, pass, &who, wanted);
+    drop(who);
+    took
+}
+
+/// The same by a user.
+fn measured_by<R: Wait, C: Clock>(
     rt: &R,
     alloc: Global,
     clock: &mut C,
@@ -50,28 +89,60 @@ fn measured<R: Wait, C: Clock>(
     requires ties { Ties engine.now pass.old }
 {
     let room = create(rt, alloc, engine, pass, who)?;
-    let last = send_all(rt, alloc, engine, pass, who, &room, 0, wanted.events)?;
+    let took = measured_in(rt, alloc, clock, engine, pass, who, &room, wanted);
+    drop(room);
+    took
+}
+
+/// The same in a room without messages.
+fn measured_in<R: Wait, C: Clock>(
+    rt: &R,
+    alloc: Global,
+    clock: &mut C,
+    engine: &Engine<Open>,
+    pass: &mut EnginePass,
+    who: &Who,
+    room: &Text,
+    wanted: Wanted,
+) -> Result<u64, Memory>
+    requires ties { Ties engine.now pass.old }
+{
+    let last = send_all(rt, alloc, engine, pass, who, room, 0, wanted.events)?;
     match wanted.timed {
-        Timed::Sends => {
-            let start = clock.now();
-            send_all(
-                rt,
-                alloc,
-                engine,
-                pass,
-                who,
-                &room,
-                wanted.events,
-                wanted.count,
-            )?;
-            Ok(clock.now().saturating_sub(start))
-        }
+        Timed::Sends => timed_sends(rt, alloc, clock, engine, pass, who, room, wanted),
         Timed::Syncs => {
-            read_up_to(rt, alloc, engine, pass, who, &room, last)?;
-            timed_syncs(rt, alloc, clock, engine, pass, who, &room, wanted)
+            read_up_to(rt, alloc, engine, pass, who, room, last)?;
+            timed_syncs(rt, alloc, clock, engine, pass, who, room, wanted)
         }
-        Timed::Unread => timed_syncs(rt, alloc, clock, engine, pass, who, &room, wanted),
+        Timed::Unread => timed_syncs(rt, alloc, clock, engine, pass, who, room, wanted),
     }
+}
+
+/// The milliseconds of the sends.
+fn timed_sends<R: Wait, C: Clock>(
+    rt: &R,
+    alloc: Global,
+    clock: &mut C,
+    engine: &Engine<Open>,
+    pass: &mut EnginePass,
+    who: &Who,
+    room: &Text,
+    wanted: Wanted,
+) -> Result<u64, Memory>
+    requires ties { Ties engine.now pass.old }
+{
+    let start = clock.now();
+    send_all(
+        rt,
+        alloc,
+        engine,
+        pass,
+        who,
+        room,
+        wanted.events,
+        wanted.count,
+    )?;
+    Ok(clock.now().saturating_sub(start))
 }
 
 /// The milliseconds of the syncs of ten messages.
@@ -95,6 +166,35 @@ fn timed_syncs<R: Wait, C: Clock>(
     Ok(clock.now().saturating_sub(start))
 }
 
+/// What the user is answered to what it asks.
+fn ask_engine<R: Wait>(
+    rt: &R,
+    alloc: Global,
+    engine: &Engine<Open>,
+    pass: &mut EnginePass,
+    who: &Who,
+    ask: Ask,
+) -> Told
+    requires ties { Ties engine.now pass.old }
+    requires ask { IsAsk ask }
+    ensures ties { Ties engine.now pass.new }
+{
+    let answered = engine.answer(rt, alloc, pass, who, ask, 1000);
+    let told = told_by(&answered.said);
+    drop(answered);
+    told
+}
+
+fn told_by(said: &Said) -> Told {
+    match said {
+        Said::Room(room) => Told::Room(*room),
+        Said::Sent(event) => Told::Sent(*event),
+        Said::Synced(reply) => Told::Synced(reply.next),
+        Said::Done => Told::Done,
+        _ => Told::Other,
+    }
+}
+
 /// Sends the user's receipt for an event of the room, if there is one. `Memory` where it is refused.
 fn read_up_to<R: Wait>(
     rt: &R,
@@ -111,17 +211,29 @@ fn read_up_to<R: Wait>(
     let Some(event) = event else {
         return Ok(());
     };
-    let mut id = Text::new(alloc);
-    write_event_id(alloc, &event, "example.org", &mut id)?;
-    let ask = Ask::Receipt {
-        room: room.copy(alloc)?,
-        kind: Some(ReceiptKind::Read),
-        event: id,
-    };
-    match engine.answer(rt, alloc, pass, who, ask, 1000).said {
-        Said::Done => Ok(()),
+    let ask = receipt_ask(alloc, room, event)?;
+    match ask_engine(rt, alloc, engine, pass, who, ask) {
+        Told::Done => Ok(()),
         _ => Err(Memory),
     }
+}
+
+/// What the user's receipt for an event of the room asks.
+fn receipt_ask(alloc: Global, room: &Text, event: EventId) -> Result<Ask, Memory>
+    ensures { IfOk result IsAsk }
+{
+    Ok(Ask::Receipt {
+        room: room.copy(alloc)?,
+        kind: Some(ReceiptKind::Read),
+        event: event_text(alloc, event)?,
+    })
+}
+
+/// An event's id as a text.
+fn event_text(alloc: Global, event: EventId) -> Result<Text, Memory> {
+    let mut id = Text::new(alloc);
+    write_event_id(alloc, &event, "example.org", &mut id)?;
+    Ok(id)
 }
 
 /// So many syncs since a token.
@@ -161,8 +273,8 @@ fn sync<R: Wait>(
         full_state: false,
         timeout: 0,
     };
-    match engine.answer(rt, alloc, pass, who, ask, 1000).said {
-        Said::Synced(reply) => Ok(reply.next),
+    match ask_engine(rt, alloc, engine, pass, who, ask) {
+        Told::Synced(next) => Ok(next),
         _ => Err(Memory),
     }
 }
@@ -192,18 +304,30 @@ fn create<R: Wait>(
     requires ties { Ties engine.now pass.old }
     ensures ties { Ties engine.now pass.new }
 {
-    let body = Json::Object(Members::new(alloc));
-    if wrong_field(&body).is_some() {
-        return Err(Memory);
-    }
-    let answered = engine.answer(rt, alloc, pass, who, Ask::CreateRoom { body }, 1000);
-    match answered.said {
-        Said::Room(room) => {
-            let mut id = Text::new(alloc);
-            write_room_id(alloc, &room, "example.org", &mut id)?;
-            Ok(id)
-        }
+    match ask_engine(rt, alloc, engine, pass, who, create_ask(alloc)?) {
+        Told::Room(room) => room_text(alloc, room),
         _ => Err(Memory),
+    }
+}
+
+/// A room's id as a text.
+fn room_text(alloc: Global, room: RoomId) -> Result<Text, Memory> {
+    let mut id = Text::new(alloc);
+    write_room_id(alloc, &room, "example.org", &mut id)?;
+    Ok(id)
+}
+
+/// What the creation of a room asks.
+fn create_ask(alloc: Global) -> Result<Ask, Memory>
+    ensures { IfOk result IsAsk }
+{
+    let body = Json::Object(Members::new(alloc));
+    match wrong_field(&body) {
+        None => Ok(Ask::CreateRoom { body }),
+        Some(_) => {
+            drop(body);
+            Err(Memory)
+        }
     }
 }
 
@@ -223,16 +347,8 @@ fn send_all<R: Wait>(
 {
     let mut last = None;
     'sends: for number in 0..count {
-        let event = send(
-            rt,
-            alloc,
-            engine,
-            pass,
-            who,
-            room,
-            u64::from(first) + u64::from(number),
-        )?;
-        last = Some(event);
+        let number = u64::from(first) + u64::from(number);
+        last = Some(send(rt, alloc, engine, pass, who, room, number)?);
     }
     Ok(last)
 }
@@ -250,30 +366,46 @@ fn send<R: Wait>(
     requires ties { Ties engine.now pass.old }
     ensures ties { Ties engine.now pass.new }
 {
-    let ask = Ask::Send {
+    let ask = send_ask(alloc, room, number)?;
+    match ask_engine(rt, alloc, engine, pass, who, ask) {
+        Told::Sent(event) => Ok(event),
+        _ => Err(Memory),
+    }
+}
+
+/// What the send of a message in a transaction of this number asks.
+fn send_ask(alloc: Global, room: &Text, number: u64) -> Result<Ask, Memory>
+    ensures { IfOk result IsAsk }
+{
+    Ok(Ask::Send {
         room: room.copy(alloc)?,
         kind: text(alloc, "m.room.message")?,
         txn: txn(alloc, room, number)?,
         content: read(alloc, b"{\"body\":\"hi\",\"msgtype\":\"m.text\"}").map_err(|_| Memory)?,
-    };
-    match engine.answer(rt, alloc, pass, who, ask, 1000).said {
-        Said::Sent(event) => Ok(event),
-        _ => Err(Memory),
-    }
+    })
 }
 
 /// A transaction of this number that sends a message to the room.
 fn txn(alloc: Global, room: &Text, number: u64) -> Result<Txn, Memory>
     ensures { IfOk result (λ t. slice_get t.path 0 ≡ Some room.now) }
 {
-    let mut path = Seq::new(alloc);
-    path.push(room.copy(alloc)?)?;
-    path.push(text(alloc, "send")?)?;
-    path.push(text(alloc, "m.room.message")?)?;
+    let path = path(alloc, room)?;
     let id = format!(in alloc; "t{number}")?;
     Ok(Txn {
         device: 0,
         id: Text::from_string(id),
         path,
     })
+}
+
+/// The path of a message to the room.
+fn path(alloc: Global, room: &Text) -> Result<Seq<Text>, Memory>
+    ensures { IfOk result (λ parts. slice_get parts 0 ≡ Some room.now) }
+{
+    let parts = [
+        room.copy(alloc)?,
+        text(alloc, "send")?,
+        text(alloc, "m.room.message")?,
+    ];
+    Ok(Seq::from_vec(Vec::from_array(alloc, parts)?))
 }
