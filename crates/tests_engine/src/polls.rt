@@ -1,6 +1,7 @@
 //! Syncs that wait until there is something to tell: the reading of the clock at which each is answered.
 
 ghost use Rattle.std.specs.Prelude.{◌≤◌};
+ghost use Rattle.mx_ask.specs.Asks.{IsAsk};
 ghost use Rattle.mx_engine.specs.Shown.{Ties};
 
 use crate::rooms::{create, one_writer, user};
@@ -40,13 +41,31 @@ fn answered_at(
         full_state,
         timeout,
     };
+    let reading = reading_of(rt, alloc, engine, pass, &who, ask);
+    drop(who);
+    reading
+}
+
+/// The reading at which what is asked is answered.
+fn reading_of(
+    rt: &(impl Wait + rt::Clock),
+    alloc: Global,
+    engine: &Engine<Open>,
+    pass: &mut EnginePass,
+    who: &Who,
+    ask: Ask,
+) -> u64
+    requires ties { Ties engine.now pass.old }
+    requires ask { IsAsk ask }
+    ensures ties { Ties engine.now pass.new }
+{
     let waiters = Waiters::new();
     let mut clock = StepClock::new(1000, 10);
     let now = clock.now();
-    let answered = answer(
-        rt, alloc, engine, &waiters, pass, &who, ask, now, &mut clock,
-    );
-    answered.mark.now
+    let answered = answer(rt, alloc, engine, &waiters, pass, who, ask, now, &mut clock);
+    let reading = answered.mark.now;
+    drop(answered);
+    reading
 }
 
 fn a_sync_with_nothing_to_tell_waits_on(
@@ -74,4 +93,6 @@ fn a_sync_with_nothing_to_tell_waits(rt: HostRuntime) {
     let alloc = rt.alloc();
     let (engine, mut pass) = one_writer(&rt, alloc, 1000);
     a_sync_with_nothing_to_tell_waits_on(&rt, alloc, &engine, &mut pass);
+    drop(pass);
+    drop(engine);
 }

@@ -1,6 +1,6 @@
 //! Rooms by calls: what each is answered, in order.
 
-ghost use Rattle.std.specs.Prelude.{◌≡◌, ◌≤◌, true};
+ghost use Rattle.std.specs.Prelude.{◌≡◌, ◌≤◌, Some, slice_get, true};
 ghost use Rattle.mx_ask.specs.Asks.{IsAsk};
 ghost use Rattle.mx_engine.specs.Shown.{Ties};
 
@@ -23,8 +23,10 @@ fn text(rt: &impl Abort, alloc: Global, s: &str) -> Text
 }
 
 pub fn user(rt: &impl Abort, alloc: Global, name: &str) -> UserId {
-    let id = format!(in alloc; "@{name}:x").expect(rt, "memory");
-    user_id(Text::from_string(id)).expect(rt, "a user id")
+    let mut id = text(rt, alloc, "@");
+    id.push_str(name).expect(rt, "memory");
+    id.push_str(":x").expect(rt, "memory");
+    user_id(id).expect(rt, "a user id")
 }
 
 fn json(rt: &impl Abort, alloc: Global, s: &str) -> Json {
@@ -73,8 +75,28 @@ pub fn answered(
         user: user(rt, alloc, name),
         device: 0,
     };
-    let answered = engine.answer(rt, alloc, pass, &who, ask, 1000);
-    code(&answered.said)
+    let code = code_of(rt, alloc, engine, pass, &who, ask);
+    drop(who);
+    code
+}
+
+/// The same on the user's first device.
+fn code_of(
+    rt: &impl Wait,
+    alloc: Global,
+    engine: &Engine<Open>,
+    pass: &mut EnginePass,
+    who: &Who,
+    ask: Ask,
+) -> u64
+    requires ties { Ties engine.now pass.old }
+    requires ask { IsAsk ask }
+    ensures ties { Ties engine.now pass.new }
+{
+    let answered = engine.answer(rt, alloc, pass, who, ask, 1000);
+    let code = code(&answered.said);
+    drop(answered);
+    code
 }
 
 /// The creation of a room by a user.
@@ -92,7 +114,10 @@ pub fn create(
     let body = json(rt, alloc, body);
     match wrong_field(&body) {
         None => answered(rt, alloc, engine, pass, name, Ask::CreateRoom { body }),
-        Some(_) => 1,
+        Some(_) => {
+            drop(body);
+            1
+        }
     }
 }
 
@@ -109,22 +134,36 @@ pub fn send(
     requires ties { Ties engine.now pass.old }
     ensures ties { Ties engine.now pass.new }
 {
-    let mut path = Seq::new(alloc);
-    path.push(text(rt, alloc, room)).expect(rt, "memory");
-    path.push(text(rt, alloc, "send")).expect(rt, "memory");
-    path.push(text(rt, alloc, "m.room.message"))
-        .expect(rt, "memory");
-    let ask = Ask::Send {
+    let ask = send_ask(rt, alloc, room, txn);
+    answered(rt, alloc, engine, pass, name, ask)
+}
+
+/// What a message in a transaction asks.
+fn send_ask(rt: &impl Abort, alloc: Global, room: &str, txn: &str) -> Ask
+    ensures { IsAsk result }
+{
+    Ask::Send {
         room: text(rt, alloc, room),
         kind: text(rt, alloc, "m.room.message"),
         txn: Txn {
             device: 0,
             id: text(rt, alloc, txn),
-            path,
+            path: path(rt, alloc, room),
         },
         content: json(rt, alloc, "{\"body\":\"hi\"}"),
-    };
-    answered(rt, alloc, engine, pass, name, ask)
+    }
+}
+
+/// The path of a message to a room.
+fn path(rt: &impl Abort, alloc: Global, room: &str) -> Seq<Text>
+    ensures { slice_get result 0 ≡ Some room.now }
+{
+    let mut path = Seq::new(alloc);
+    path.push(text(rt, alloc, room)).expect(rt, "memory");
+    path.push(text(rt, alloc, "send")).expect(rt, "memory");
+    path.push(text(rt, alloc, "m.room.message"))
+        .expect(rt, "memory");
+    path
 }
 
 /// A membership call of a user for the room `!0-1:x`: a word, and the user that it names.
@@ -197,6 +236,8 @@ fn a_room_by_calls(rt: HostRuntime) {
     let alloc = rt.alloc();
     let (engine, mut pass) = one_writer(&rt, alloc, 1000);
     a_room_by_calls_on(&rt, alloc, &engine, &mut pass);
+    drop(pass);
+    drop(engine);
 }
 
 fn bans_and_kicks_on(rt: &(impl Abort + Wait), alloc: Global, e: &Engine<Open>, p: &mut EnginePass)
@@ -223,13 +264,16 @@ fn bans_and_kicks(rt: HostRuntime) {
     let alloc = rt.alloc();
     let (engine, mut pass) = one_writer(&rt, alloc, 1000);
     bans_and_kicks_on(&rt, alloc, &engine, &mut pass);
+    drop(pass);
+    drop(engine);
 }
 
 #[test]
 fn a_full_stream(rt: HostRuntime) {
-    let (engine, mut pass) = one_writer(&rt, rt.alloc(), 0);
-    assert_eq!(rt;
-        create(&rt, rt.alloc(), &engine, &mut pass, "alice", "{}"),
-        500
-    );
+    let alloc = rt.alloc();
+    let (engine, mut pass) = one_writer(&rt, alloc, 0);
+    let told = create(&rt, alloc, &engine, &mut pass, "alice", "{}");
+    drop(pass);
+    drop(engine);
+    assert_eq!(rt; told, 500);
 }

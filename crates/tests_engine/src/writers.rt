@@ -96,6 +96,9 @@ fn two_passes_of_three_writers(rt: HostRuntime) {
     let (engine, mut first) = three_writers(&rt, alloc, 1000);
     let mut second = engine.pass(alloc, &mut first).expect(&rt, "memory");
     two_passes_of_three_writers_on(&rt, alloc, &engine, &mut first, &mut second);
+    drop(second);
+    drop(first);
+    drop(engine);
 }
 
 fn the_last_positions_of_a_stream_on(
@@ -125,4 +128,7 @@ fn the_last_positions_of_a_stream(rt: HostRuntime) {
     let (engine, mut first) = three_writers(&rt, alloc, 7);
     let mut second = engine.pass(alloc, &mut first).expect(&rt, "memory");
     the_last_positions_of_a_stream_on(&rt, alloc, &engine, &mut first, &mut second);
+    drop(second);
+    drop(first);
+    drop(engine);
 }
