@@ -41,14 +41,33 @@ fn asks<A: Abort, R: Routes>(
     let is_so = is_told::<A, R>(rt, alloc, at(rt, row, 4), &asked);
     // (the proof of its drop takes minutes, and no test is about it)
     mem::forget(asked);
+    drop(call);
     is_so
 }
 
+/// Whether the calls of all rows ask what the rows say.
+fn all_are<A: Abort, R: Routes>(
+    rt: &A,
+    alloc: Global,
+    routes: &R,
+    users: &Directory,
+    rows: &Json,
+) -> bool {
+    for row in list(rt, rows) {
+        if !asks(rt, alloc, routes, users, row) {
+            return false;
+        }
+    }
+    true
+}
+
 /// The calls of the rows ask what the rows say.
-pub fn all_ask<A: Abort, R: Routes>(rt: &A, alloc: Global, routes: &R, rows: &str) {
+pub fn all_ask<A: Abort, R: Routes + Drop>(rt: &A, alloc: Global, routes: R, rows: &str) {
     let users = users(rt, alloc);
     let rows = json(rt, alloc, rows);
-    for row in list(rt, &rows) {
-        assert!(rt; asks(rt, alloc, routes, &users, row));
-    }
+    let are_so = all_are(rt, alloc, &routes, &users, &rows);
+    drop(rows);
+    drop(users);
+    drop(routes);
+    assert!(rt; are_so);
 }

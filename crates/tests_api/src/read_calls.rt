@@ -35,7 +35,7 @@ fn the_first_refusal_is_told_in_order(rt: HostRuntime) {
         ["POST", "/rooms/r/receipt/m.read/e", "secret", "[]", [400, "M_BAD_JSON", "bad JSON: body"]]
     ]"#;
     let routes = read_routes(rt.alloc()).expect(&rt, "routes");
-    all_ask(&rt, rt.alloc(), &routes, rows);
+    all_ask(&rt, rt.alloc(), routes, rows);
 }
 
 #[test]
@@ -60,7 +60,7 @@ fn the_parameters_of_a_page_are_judged_in_order(rt: HostRuntime) {
         ["GET", "/rooms/r/messages?dir=b&other=x&filter={\"lazy_load_members\":true}", "secret", "", ["page", "r", "b", "none", "none", "10", "lazy"]]
     ]"#;
     let routes = read_routes(rt.alloc()).expect(&rt, "routes");
-    all_ask(&rt, rt.alloc(), &routes, rows);
+    all_ask(&rt, rt.alloc(), routes, rows);
 }
 
 #[test]
@@ -76,5 +76,5 @@ fn a_call_that_reads_asks(rt: HostRuntime) {
         ["POST", "/rooms/r/receipt/m.fully_read/e", "secret", "{}", ["receipt", "r", "fully", "e"]]
     ]"#;
     let routes = read_routes(rt.alloc()).expect(&rt, "routes");
-    all_ask(&rt, rt.alloc(), &routes, rows);
+    all_ask(&rt, rt.alloc(), routes, rows);
 }

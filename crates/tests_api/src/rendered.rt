@@ -12,7 +12,9 @@ use std::process::Abort;
 /// Whether an answer has this status, and this text at a key of its object.
 fn has(rt: &impl Abort, alloc: Global, said: Said, status: u16, key: &str, value: &str) -> bool {
     let answer = render(alloc, "example.org", 0, said).expect(rt, "memory");
-    answer.status == status && is_at(&answer, key, value)
+    let is_so = answer.status == status && is_at(&answer, key, value);
+    drop(answer);
+    is_so
 }
 
 fn is_at(answer: &Answer, key: &str, value: &str) -> bool {
@@ -89,14 +91,30 @@ fn first_type(object: &Json) -> Option<&Json> {
     events.as_slice().first()?.field("type")
 }
 
+/// Whether a reply is answered with its token, its account data and the member of its rooms.
+fn has_account_data(answer: &Answer) -> bool {
+    match &answer.body {
+        Body::Json(object) => {
+            is_at(answer, "next_batch", "s0_0_1_0_0")
+                && is_direct(first_type(object))
+                && object.at_path("rooms.join").is_some()
+        }
+        Body::Fixed(_) => false,
+    }
+}
+
+fn is_direct(kind: Option<&Json>) -> bool {
+    match kind {
+        Some(Json::Text(kind)) => kind.as_str() == "m.direct",
+        _ => false,
+    }
+}
+
 #[test]
 fn a_reply_has_its_token_and_account_data(rt: HostRuntime) {
     let said = Said::Synced(reply(&rt, rt.alloc()));
     let answer = render(rt.alloc(), "example.org", 0, said).expect(&rt, "memory");
-    assert!(&rt; answer.status == 200 && is_at(&answer, "next_batch", "s0_0_1_0_0"));
-    if let Body::Json(object) = &answer.body {
-        let found = first_type(object).expect(&rt, "an event");
-        assert!(&rt; found.as_text().expect(&rt, "a text").as_str() == "m.direct");
-        assert!(&rt; object.at_path("rooms.join").is_some());
-    }
+    let is_so = answer.status == 200 && has_account_data(&answer);
+    drop(answer);
+    assert!(&rt; is_so);
 }

@@ -46,7 +46,7 @@ fn the_first_refusal_is_told_in_order(rt: HostRuntime) {
         ["POST", "/rooms/r/ban", "secret", "{\"user_id\":1}", [400, "M_BAD_JSON", "bad JSON: user_id"]]
     ]"#;
     let routes = room_routes(rt.alloc()).expect(&rt, "routes");
-    all_ask(&rt, rt.alloc(), &routes, rows);
+    all_ask(&rt, rt.alloc(), routes, rows);
 }
 
 #[test]
@@ -71,5 +71,5 @@ fn a_call_on_a_room_asks(rt: HostRuntime) {
         ["POST", "/rooms/r/unban", "secret", "{\"user_id\":\"@b:x\"}", ["unban", "r", "@b:x", "none"]]
     ]"#;
     let routes = room_routes(rt.alloc()).expect(&rt, "routes");
-    all_ask(&rt, rt.alloc(), &routes, rows);
+    all_ask(&rt, rt.alloc(), routes, rows);
 }
