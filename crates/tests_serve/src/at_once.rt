@@ -6,15 +6,17 @@ ghost use Rattle.mx_engine.specs.Shown.{Ties};
 use crate::make::USERS;
 use crate::meeting::{Holding, Meeting, TurnSink, TurnSource};
 use crate::sessions::read_table;
-use mx_engine::{EnginePass, Setup, engine};
+use mx_engine::{Engine, EnginePass, Setup, engine};
 use mx_ids::Memory;
 use mx_outside::{MemListener, MemSource, Spawner, StepClock};
 use mx_pool::{Seated, Served, serve};
 use mx_serve::Server;
 use mx_users::read_users;
 use std::alloc::Global;
-use std::sync::Arc;
+use std::rt;
+use std::sync::{Arc, Wait};
 use std::test::Fail;
+use std::thread::Threads;
 
 /// A call with its answer, and after how many steps it is sent.
 type Turn = (u64, &'static str);
@@ -125,7 +127,20 @@ fn server(
         steps: 6,
     };
     let (engine, pass) = engine(alloc, setup, gate)?;
-    Ok((Arc::new(alloc, Server::new(alloc, engine)?)?, pass))
+    match shared(alloc, engine) {
+        Ok(server) => Ok((server, pass)),
+        Err(refused) => {
+            drop(pass);
+            Err(refused)
+        }
+    }
+}
+
+/// A server on an engine, shared.
+fn shared(alloc: Global, engine: Engine<Holding>) -> Result<Arc<Server<Holding>>, Memory>
+    ensures { IfOk result (λ server. (arc_value server).engine ≡ engine) }
+{
+    Ok(Arc::new(alloc, Server::new(alloc, engine)?)?)
 }
 
 /// Two seats of a server.
@@ -137,9 +152,83 @@ fn seats(
     requires ties { Ties (arc_value server).engine pass }
     ensures two { IfOk result (λ seats. length seats.items ≡ 2) }
 {
-    let other = server.engine().pass(alloc, &mut pass)?;
-    let twin = Arc::try_clone(&server)?;
-    Ok(Vec::from_array(alloc, [Seated::new(server, pass), Seated::new(twin, other)])?)
+    match twin(alloc, &server, &mut pass) {
+        Ok(twin) => Ok(Vec::from_array(alloc, [Seated::new(server, pass), twin])?),
+        Err(refused) => {
+            drop(pass);
+            drop(server);
+            Err(refused)
+        }
+    }
+}
+
+/// Another seat of a server, with a pass that has seen what a pass has seen.
+fn twin(
+    alloc: Global,
+    server: &Arc<Server<Holding>>,
+    pass: &mut EnginePass,
+) -> Result<Seated<Holding>, Memory>
+    requires ties { Ties (arc_value server.now).engine pass.old }
+    ensures ties { Ties (arc_value server.now).engine pass.new }
+{
+    let other = server.engine().pass(alloc, pass)?;
+    match Arc::try_clone(server) {
+        Ok(server) => Ok(Seated::new(server, other)),
+        Err(_) => {
+            drop(other);
+            Err(Memory)
+        }
+    }
+}
+
+/// How the connections of Alice and of Bob end.
+fn served<R: Wait + rt::Clock + Threads + Copy + Drop + Send + 'static>(
+    rt: &R,
+    alloc: Global,
+    meeting: &Arc<Meeting>,
+) -> Result<Served, Memory> {
+    let pairs = Vec::from_array(
+        alloc,
+        [
+            pair(alloc, meeting, ALICE.as_slice())?,
+            pair(alloc, meeting, BOB.as_slice())?,
+        ],
+    )?;
+    let mut listener = MemListener::new(pairs, Vec::new(alloc));
+    let served = served_on(rt, alloc, meeting, &mut listener);
+    drop(listener);
+    served
+}
+
+/// The same of the connections of a listener.
+fn served_on<R: Wait + rt::Clock + Threads + Copy + Drop + Send + 'static>(
+    rt: &R,
+    alloc: Global,
+    meeting: &Arc<Meeting>,
+    listener: &mut MemListener<TurnSource, TurnSink>,
+) -> Result<Served, Memory> {
+    let mut spawner = Spawner::in_threads(alloc)?;
+    let served = match two_seats(alloc, meeting) {
+        Ok(seats) => Ok(serve(
+            rt,
+            alloc,
+            seats,
+            listener,
+            &mut spawner,
+            &StepClock::new(1000, 1),
+        )),
+        Err(refused) => Err(refused),
+    };
+    drop(spawner);
+    served
+}
+
+/// Two seats of a new server.
+fn two_seats(alloc: Global, meeting: &Arc<Meeting>) -> Result<Vec<Seated<Holding>>, Memory>
+    ensures two { IfOk result (λ seats. length seats.items ≡ 2) }
+{
+    let (server, pass) = server(alloc, Arc::try_clone(meeting)?)?;
+    seats(alloc, server, pass)
 }
 
 /// Without both connections at once, or where a token covers a write that is held, somebody waits in vain.
@@ -147,23 +236,10 @@ fn seats(
 fn a_token_covers_no_held_write_and_a_sync_waits_for_it(rt: HostRuntime) -> Result<(), Fail> {
     let alloc = rt.alloc();
     let meeting = Arc::new(alloc, Meeting::new())?;
-    let (server, pass) = server(alloc, Arc::try_clone(&meeting)?)?;
-    let pairs = Vec::from_array(
-        alloc,
-        [
-            pair(alloc, &meeting, ALICE.as_slice())?,
-            pair(alloc, &meeting, BOB.as_slice())?,
-        ],
-    )?;
-    let served = serve(
-        &rt,
-        alloc,
-        seats(alloc, server, pass)?,
-        &mut MemListener::new(pairs, Vec::new(alloc)),
-        &mut Spawner::in_threads(alloc)?,
-        &StepClock::new(1000, 1),
-    );
-    assert_eq!(rt; served, Served::Closed);
-    assert_eq!(rt; meeting.counts(), (10, 0));
+    let served = served(&rt, alloc, &meeting);
+    let counts = meeting.counts();
+    drop(meeting);
+    assert_eq!(rt; served?, Served::Closed);
+    assert_eq!(rt; counts, (10, 0));
     Ok(())
 }

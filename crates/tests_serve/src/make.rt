@@ -40,11 +40,13 @@ pub fn usual_case(input: &str) -> Case {
 
 /// The words `--users FILE --mode MODE`.
 pub fn words(alloc: Global, file: &str, mode: &str) -> Result<Vec<String>, Memory> {
-    let users = String::from_str(alloc, "--users")?;
-    let file = String::from_str(alloc, file)?;
-    let word = String::from_str(alloc, "--mode")?;
-    let mode = String::from_str(alloc, mode)?;
-    Ok(Vec::from_array(alloc, [users, file, word, mode])?)
+    let words = [
+        String::from_str(alloc, "--users")?,
+        String::from_str(alloc, file)?,
+        String::from_str(alloc, "--mode")?,
+        String::from_str(alloc, mode)?,
+    ];
+    Ok(Vec::from_array(alloc, words)?)
 }
 
 pub fn files(alloc: Global, users: &str) -> Result<MemFiles, Memory> {
@@ -90,10 +92,14 @@ pub fn expect_by<R: Abort + Wait + rt::Clock + Threads + Copy + Drop + Send + 's
 ) -> Result<(), Memory> {
     let mut output = sink(alloc, case.failing_write)?;
     let mut errors = sink(alloc, NEVER)?;
-    let found = status_of(rt, alloc, words, case, &mut output, &mut errors)?;
-    assert_eq!(rt; found, status);
-    assert!(rt; output.written() == written.as_bytes());
-    assert!(rt; errors.written() == told.as_bytes());
+    let found = status_of(rt, alloc, words, case, &mut output, &mut errors);
+    let is_written = output.written() == written.as_bytes();
+    let is_told = errors.written() == told.as_bytes();
+    drop(errors);
+    drop(output);
+    assert_eq!(rt; found?, status);
+    assert!(rt; is_written);
+    assert!(rt; is_told);
     Ok(())
 }
 
@@ -108,6 +114,22 @@ fn status_of<R: Abort + Wait + rt::Clock + Threads + Copy + Drop + Send + 'stati
 ) -> Result<u8, Memory> {
     let mut files = files(alloc, case.users)?;
     let mut input = source(alloc, case)?;
+    let status = status_on(rt, alloc, words, &mut files, &mut input, output, errors);
+    drop(input);
+    drop(files);
+    Ok(status)
+}
+
+/// The status of a run with these words, over these files and this input.
+fn status_on<R: Abort + Wait + rt::Clock + Threads + Copy + Drop + Send + 'static>(
+    rt: &R,
+    alloc: Global,
+    words: &[String],
+    files: &mut MemFiles,
+    input: &mut MemSource,
+    output: &mut MemSink,
+    errors: &mut MemSink,
+) -> u8 {
     let mut clock = StepClock::new(1000, 1);
     let pairs: Vec<(MemSource, MemSink)> = Vec::new(alloc);
     let mut listener = MemListener::new(pairs, Vec::new(alloc));
@@ -116,15 +138,19 @@ fn status_of<R: Abort + Wait + rt::Clock + Threads + Copy + Drop + Send + 'stati
         rt,
         alloc,
         words,
-        &mut files,
-        &mut input,
+        files,
+        input,
         output,
         errors,
         &mut clock,
         &mut listener,
         &mut spawner,
     );
-    Ok(ran.status.number())
+    let status = ran.status.number();
+    drop(ran);
+    drop(spawner);
+    drop(listener);
+    status
 }
 
 const HEADERS: &str =

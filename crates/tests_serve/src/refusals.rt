@@ -87,7 +87,13 @@ fn server_up_to(
         stop,
     };
     let (engine, pass) = engine(alloc, setup, Open)?;
-    Ok((Server::new(alloc, engine)?, pass))
+    match Server::new(alloc, engine) {
+        Ok(server) => Ok((server, pass)),
+        Err(refused) => {
+            drop(pass);
+            Err(refused)
+        }
+    }
 }
 
 /// The end of a connection that a pass serves.
@@ -104,7 +110,10 @@ fn end_on<R: Abort + Wait + rt::Clock>(
     let mut input = source(alloc, case)?;
     let mut clock = StepClock::new(1000, 1);
     let ended = serve_connection(rt, alloc, server, pass, &mut input, output, &mut clock);
-    Ok(ended.end)
+    let end = ended.end;
+    drop(ended);
+    drop(input);
+    Ok(end)
 }
 
 /// The end of a connection to a server on an engine whose streams have this stop.
@@ -118,7 +127,10 @@ fn end_by<R: Abort + Wait + rt::Clock>(
     requires { stop ≤ 281474976694272 }
 {
     let (server, mut pass) = server_up_to(rt, alloc, case.users, stop)?;
-    end_on(rt, alloc, &server, &mut pass, case, output)
+    let end = end_on(rt, alloc, &server, &mut pass, case, output);
+    drop(pass);
+    drop(server);
+    end
 }
 
 /// A connection to an engine whose streams have this stop is asked the calls of a table, and writes its answers.
@@ -133,9 +145,12 @@ fn holds_up_to<R: Abort + Wait + rt::Clock>(
     let session = read_table(alloc, table)?;
     let case = usual_case(session.requests.as_str());
     let mut output = sink(alloc, case.failing_write)?;
-    let end = end_by(rt, alloc, &case, stop, &mut output)?;
-    assert_eq!(rt; end, End::Closed);
-    assert!(rt; output.written() == session.answers.as_bytes());
+    let end = end_by(rt, alloc, &case, stop, &mut output);
+    let is_written = output.written() == session.answers.as_bytes();
+    drop(output);
+    drop(session);
+    assert_eq!(rt; end?, End::Closed);
+    assert!(rt; is_written);
     Ok(())
 }
 

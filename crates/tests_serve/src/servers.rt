@@ -3,7 +3,7 @@ use crate::make::{NEVER, USERS, files, sink};
 use crate::sessions::read_table;
 use crate::whole_sink::WholeSink;
 use mx_ids::Memory;
-use mx_outside::{MemListener, MemSource, Spawner, StepClock};
+use mx_outside::{MemFiles, MemListener, MemSink, MemSource, Spawner, StepClock};
 use mx_pool::run;
 use std::alloc::Global;
 use std::process::Abort;
@@ -58,8 +58,10 @@ fn served<R: Abort + Wait + rt::Clock + Threads + Copy + Drop + Send + 'static>(
     )?;
     let mut listener = MemListener::new(pairs, Vec::from_array(alloc, [failing_listen])?);
     let mut spawner = Spawner::in_caller(Vec::from_array(alloc, [failing_start])?);
-    let status = status_of(rt, alloc, &mut listener, &mut spawner, told)?;
-    Ok((status, whole.load(Ordering::SeqCst)))
+    let status = status_of(rt, alloc, &mut listener, &mut spawner, told);
+    drop(spawner);
+    drop(listener);
+    Ok((status?, whole.load(Ordering::SeqCst)))
 }
 
 /// The status of a run that tells these lines to the errors, and 100 where it tells others.
@@ -72,26 +74,57 @@ fn status_of<R: Abort + Wait + rt::Clock + Threads + Copy + Drop + Send + 'stati
 ) -> Result<u8, Memory> {
     let words = words(alloc)?;
     let mut files = files(alloc, USERS)?;
-    let mut input = MemSource::new(Vec::new(alloc), 1, Vec::new(alloc));
-    let mut output = sink(alloc, NEVER)?;
     let mut errors = sink(alloc, NEVER)?;
-    let mut clock = StepClock::new(1000, 1);
-    let ran = run(
+    let status = status_on(
         rt,
         alloc,
         words.as_slice(),
         &mut files,
+        &mut errors,
+        listener,
+        spawner,
+    );
+    let is_told = errors.written() == told.as_bytes();
+    drop(errors);
+    drop(files);
+    drop(words);
+    if is_told { status } else { Ok(100) }
+}
+
+/// The status of a run with these words and files, and 100 where it served a connection over its standard streams.
+fn status_on<R: Abort + Wait + rt::Clock + Threads + Copy + Drop + Send + 'static>(
+    rt: &R,
+    alloc: Global,
+    words: &[String],
+    files: &mut MemFiles,
+    errors: &mut MemSink,
+    listener: &mut MemListener<MemSource, WholeSink>,
+    spawner: &mut Spawner,
+) -> Result<u8, Memory> {
+    let mut output = sink(alloc, NEVER)?;
+    let mut input = MemSource::new(Vec::new(alloc), 1, Vec::new(alloc));
+    let mut clock = StepClock::new(1000, 1);
+    let ran = run(
+        rt,
+        alloc,
+        words,
+        files,
         &mut input,
         &mut output,
-        &mut errors,
+        errors,
         &mut clock,
         listener,
         spawner,
     );
-    if errors.written() != told.as_bytes() || ran.connection.is_some() {
-        return Ok(100);
-    }
-    Ok(ran.status.number())
+    let status = if ran.connection.is_some() {
+        100
+    } else {
+        ran.status.number()
+    };
+    drop(ran);
+    drop(input);
+    drop(output);
+    Ok(status)
 }
 
 #[test]
