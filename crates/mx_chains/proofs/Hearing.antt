@@ -37,7 +37,7 @@ use Rattle.mx_ask.specs.declared.refusal.Refusal.TheVariants as refusal
 use Rattle.mx_ask.specs.declared.ask.FilterAsk.{FilterAsk}
 use Rattle.mx_ask.specs.declared.said.Said.{Said}
 use Rattle.mx_ask.specs.declared.said.Said.TheVariants as said
-use Rattle.mx_engine.specs.Reads.{of_room, page_ask, page_said, page_told, snapshot_of, sync_ask, sync_by, sync_said, unless_ahead}
+use Rattle.mx_acts.specs.Reads.{of_room, page_ask, page_said, page_told, snapshot_of, sync_ask, sync_by, sync_said, unless_ahead}
 use Rattle.mx_aims.specs.Stored.{there}
 use Rattle.mx_chains.specs.Heard.{heard, heard_page, no_part, page_asked, page_back, page_from_bound, page_to, replied, sync_asked}
 use Rattle.mx_chains.proofs.Behind.{page_behind, sync_behind, to_bound}

@@ -28,7 +28,7 @@ use Rattle.mx_ask.specs.declared.said.Said.TheVariants as said
 use Rattle.mx_engine.specs.Answers.{counts}
 use Rattle.mx_aims.specs.Asked.{Site, room_of}
 use Rattle.mx_engine.specs.Exchanges.{first_of}
-use Rattle.mx_engine.specs.Reads.{sync_ask}
+use Rattle.mx_acts.specs.Reads.{sync_ask}
 use Rattle.mx_engine.specs.declared.answered.Answered.{Answered}
 
 -- ---- what is asked

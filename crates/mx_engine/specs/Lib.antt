@@ -1,6 +1,5 @@
 pub mod Answers
 pub mod Exchanges
-pub mod Reads
 pub mod Repeats
 pub mod Shown
 pub mod Written

@@ -3,7 +3,7 @@
 ghost use Rattle.std.specs.Prelude.{◌≡◌, ◌<◌, IfOk, take};
 ghost use Rattle.mx_core.specs.History.{Begins, items_of, own};
 ghost use Rattle.mx_entries.specs.Own.{filters_of};
-ghost use Rattle.mx_engine.specs.Answers.{Files};
+ghost use Rattle.mx_acts.specs.Acts.{Files, asked};
 ghost use Rattle.mx_aims.specs.Asked.{writer_for};
 ghost use Rattle.mx_engine.specs.Shown.{IsDoneBy, LooksOn, Ties, made_of, site_of, stores_of};
 ghost use Rattle.mx_engine.specs.Written.{filed_by};
@@ -12,7 +12,8 @@ use crate::answered::{Answered, Mark};
 use crate::held::{Engine, EnginePass};
 use crate::seat::write_on;
 use crate::writes::{mark_by, put_said};
-use mx_ask::{Said, Who};
+use mx_acts::filter_of;
+use mx_ask::{Ask, Said, Who};
 use mx_entries::EntryDraft;
 use mx_ids::{Copied, Memory, UserId};
 use mx_json::Json;
@@ -21,9 +22,31 @@ use std::alloc::Global;
 use std::sync::Wait;
 
 impl<G: Gate + Drop> Engine<G> {
+    /// What is told of a request that stores a filter.
+    pub(crate) fn files<R: Wait>(
+        &self,
+        rt: &R,
+        alloc: Global,
+        pass: &mut EnginePass,
+        now: u64,
+        who: &Who,
+        ask: Ask,
+    ) -> Answered
+        requires ties { Ties self.now pass.old }
+        ensures done { IsDoneBy self.now now (asked (site_of self.now) now who.now ask) pass.old pass.new result }
+    {
+        match filter_of(ask) {
+            Ok(filter) => self.put_filter(rt, alloc, pass, now, who, filter),
+            Err(_) => {
+                self.glance(rt, pass);
+                pass.no_memory(now)
+            }
+        }
+    }
+
     /// `POST /user/{userId}/filter` (Client-Server API, Filtering): stores a filter, and then asks its writer for the id. Where
     /// memory is wanting for the id the filter stays stored. Costs time in the number of the writer's entries.
-    pub(crate) fn put_filter<R: Wait>(
+    fn put_filter<R: Wait>(
         &self,
         rt: &R,
         alloc: Global,
@@ -37,6 +60,7 @@ impl<G: Gate + Drop> Engine<G> {
     {
         self.glance(rt, pass);
         let Ok(user) = who.user.copy(alloc) else {
+            drop(filter);
             return pass.no_memory(now);
         };
         let shard = self.site.writer_for(&who.user);

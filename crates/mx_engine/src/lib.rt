@@ -3,18 +3,15 @@
 
 mod answer;
 mod answered;
+mod asking;
 mod filing;
 mod held;
 mod laws;
 mod noting;
 mod passes;
 mod reading;
-mod reads;
-mod room_reads;
 mod seat;
 mod start;
-mod user_reads;
-mod user_writes;
 mod writes;
 
 pub use answered::{Answered, Counts, Mark};

@@ -1,7 +1,8 @@
 //! What an engine's pass has seen, and the marks of answers that write nothing.
 
 ghost use Rattle.std.specs.Prelude.{◌≡◌, true, IfOk, OnOk};
-ghost use Rattle.mx_engine.specs.Answers.{IsDone, Reads, Stops, counts_of, reading};
+ghost use Rattle.mx_acts.specs.Acts.{Reads};
+ghost use Rattle.mx_engine.specs.Answers.{IsDone, Stops, counts_of, reading};
 ghost use Rattle.mx_engine.specs.Shown.{HasLooked, Ties, known_of, made_of, stores_of};
 ghost use Rattle.mx_fold.specs.Lists.{Grows, Histories, Lists, lists_of};
 ghost use Rattle.mx_rest.specs.Servers.{AreValid};

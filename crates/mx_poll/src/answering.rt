@@ -2,7 +2,8 @@
 
 ghost use Rattle.std.specs.Prelude.{◌≡◌, ◌≤◌};
 ghost use Rattle.mx_ask.specs.Asks.{IsAsk};
-ghost use Rattle.mx_engine.specs.Answers.{IsAnswered, asked, made_for};
+ghost use Rattle.mx_acts.specs.Acts.{asked};
+ghost use Rattle.mx_engine.specs.Answers.{IsAnswered, made_for};
 ghost use Rattle.mx_engine.specs.Shown.{LooksFor, Ties, made_of, site_of, stops_of, stores_of};
 ghost use Rattle.mx_outside.specs.Readings.{most_reading};
 ghost use Rattle.mx_poll.specs.Waits.{HasWaited};

@@ -1,8 +1,8 @@
 //! A sync that waits until there is something to tell.
 
 ghost use Rattle.std.specs.Prelude.{◌≡◌, ◌≤◌, true};
-ghost use Rattle.mx_engine.specs.Answers.{Reads};
-ghost use Rattle.mx_engine.specs.Reads as told;
+ghost use Rattle.mx_acts.specs.Acts.{Reads};
+ghost use Rattle.mx_acts.specs.Reads as told;
 ghost use Rattle.mx_engine.specs.Shown.{IsDoneBy, Ties};
 ghost use Rattle.mx_poll.specs.Waits.{may_wait, tells_nothing};
 

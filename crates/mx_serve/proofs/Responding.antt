@@ -6,7 +6,8 @@ use Rattle.mx_http.specs.declared.call.Call.{Call}
 use Rattle.mx_render.specs.Rendered.{no_memory_text, said_status, said_text}
 use Rattle.mx_writers.specs.Decision.{Placing}
 use Rattle.mx_fold.specs.Lists.{Histories, lists_of}
-use Rattle.mx_engine.specs.Answers.{Act, Files, IsAnswered, KeepsAct, KeepsBoth, KeepsEntry, KeepsMarker, KeepsNote, KeepsPut, KeepsReceipt, KeepsWrites, LeavesReceipts, Marks, Notes, Puts, Reads, Sends, Stops, TellsMarker, act_said, asked, counts_of, filed, of_marker, reading}
+use Rattle.mx_acts.specs.Acts.{Act, Files, Marks, Notes, Puts, Reads, Sends, asked}
+use Rattle.mx_engine.specs.Answers.{IsAnswered, KeepsAct, KeepsBoth, KeepsEntry, KeepsMarker, KeepsNote, KeepsPut, KeepsReceipt, KeepsWrites, LeavesReceipts, Stops, TellsMarker, act_said, counts_of, filed, of_marker, reading}
 use Rattle.mx_aims.specs.Stored.{EntryAimed, EntryPut, Note, NoteAimed, ReceiptAimed, ReceiptPut, marker_put, receipts_put}
 use Rattle.mx_aims.specs.Asked.{Site}
 use Rattle.mx_engine.specs.Written.{KeepsMark}

@@ -1,5 +1,6 @@
 use Rattle.std.proofs.Common.{◌≡◌, sym, ◌∙◌, subst}
-use Rattle.mx_engine.specs.Answers.{IsAnswered, asked, made_for}
+use Rattle.mx_acts.specs.Acts.{asked}
+use Rattle.mx_engine.specs.Answers.{IsAnswered, made_for}
 use Rattle.mx_engine.specs.Shown.{made_of, site_of, stops_of, stores_of}
 use Rattle.mx_poll.proofs.AtOnce.{at_once}
 use Rattle.mx_poll.proofs.answering.answer.Goals as goal

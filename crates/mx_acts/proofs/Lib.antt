@@ -1,0 +1,2 @@
+mod ByFilter
+pub mod OfKind
