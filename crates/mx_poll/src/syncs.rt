@@ -1,6 +1,6 @@
 //! A sync that waits until there is something to tell.
 
-ghost use Rattle.std.specs.Prelude.{◌≡◌, ◌≤◌, true};
+ghost use Rattle.std.specs.Prelude.{◌≡◌, ◌≤◌, false, true};
 ghost use Rattle.mx_acts.specs.Acts.{Reads};
 ghost use Rattle.mx_acts.specs.Reads as told;
 ghost use Rattle.mx_engine.specs.Shown.{IsDoneBy, Ties};
@@ -36,6 +36,7 @@ pub(crate) fn sync<G: Gate + Drop, R: Wait + rt::Clock, C: Clock>(
     requires last { C.last clock.old ≡ now }
     ensures done { IsDoneBy engine.now result.mark.now (Reads (λ l. told.sync_said l who.now.user since filter.now full_state)) pass.old pass.new result }
     ensures waited { may_wait since full_state ≡ true → tells_nothing result.said ≡ true → deadline ≤ result.mark.now }
+    ensures at_once { may_wait since full_state ≡ false → result.mark.now ≡ now }
     ensures last { C.last clock.new ≡ result.mark.now }
 {
     let mut reading = now;
@@ -63,7 +64,8 @@ fn is_due(
     reading: u64,
     deadline: u64,
 ) -> bool
-    ensures { result ≡ true → may_wait since full_state ≡ true → tells_nothing said.now ≡ true → deadline ≤ reading }
+    ensures due { result ≡ true → may_wait since full_state ≡ true → tells_nothing said.now ≡ true → deadline ≤ reading }
+    ensures waits { result ≡ false → may_wait since full_state ≡ true }
 {
     deadline <= reading || !may_wait(since, full_state) || !tells_nothing(said)
 }
