@@ -2,6 +2,8 @@
 #![tactic(auto)]
 
 #[cfg(test)]
+mod known;
+#[cfg(test)]
 mod make;
 #[cfg(test)]
 mod members;
@@ -11,6 +13,8 @@ mod others;
 mod reads;
 #[cfg(test)]
 mod rests;
+#[cfg(test)]
+mod rows;
 #[cfg(test)]
 mod scans;
 #[cfg(test)]

@@ -1,102 +1,37 @@
-//! Receipts and account data: what a snapshot finds of them, also where it goes on in two steps.
+//! Receipts and account data: what a snapshot finds of them.
 
-ghost use Rattle.std.specs.Prelude.{◌≡◌, IfOk, OnOk};
-ghost use Rattle.mx_account.specs.Entries as entries;
-ghost use Rattle.mx_account.specs.Values as account;
-ghost use Rattle.mx_receipt.specs.Receipts as receipt;
-
-use crate::make::{room, text, user};
+use crate::known::{accounts, receipts, snapshot};
+use crate::rows::room;
 use crate::scans::with;
 use mx_account::Entry;
-use mx_ids::{EventId, Memory};
-use mx_json::Json;
-use mx_lanes::Parts;
-use mx_receipt::{Receipt, ReceiptKind};
 use mx_snapshot::{Accounts, Receipts, Snapshot};
 use std::alloc::Global;
+use std::mem;
 use std::process::Abort;
 use std::test::*;
 
-/// The receipt at a position: the rooms take turns.
-fn receipt(rt: &impl Abort, alloc: Global, position: u64) -> Receipt
-    ensures { receipt.position_of result ≡ position }
-{
-    Receipt {
-        room: room(position),
-        user: user(rt, alloc, "@a:b"),
-        kind: ReceiptKind::Read,
-        event: EventId { at: 1 },
-        ts: 0,
-        at: position,
-    }
-}
+/// Receipts of three rooms that take turns: the room, the user, whether it is private, and the event.
+const RECEIPTS: &str = r#"[
+    [2,"@a:b",false,1], [3,"@a:b",false,1], [1,"@a:b",false,1],
+    [2,"@a:b",false,1], [3,"@a:b",false,1], [1,"@a:b",false,1],
+    [2,"@a:b",false,1], [3,"@a:b",false,1], [1,"@a:b",false,1],
+    [2,"@a:b",false,1], [3,"@a:b",false,1], [1,"@a:b",false,1]]"#;
 
-fn push_receipt(rt: &impl Abort, alloc: Global, made: &mut Vec<Receipt>) -> Result<(), Memory>
-    requires { receipt.AreInPlace made.old.items }
-    ensures { OnOk result (receipt.AreInPlace made.new.items) }
-{
-    let position = made.len() as u64 + 1;
-    made.push(receipt(rt, alloc, position))?;
-    Ok(())
-}
+/// Account data of three rooms that take turns, and then global data: the user, the room or 0, the type and the content.
+const DATA: &str = r#"[
+    ["@a:b",2,"m.tag",null], ["@a:b",3,"m.tag",null], ["@a:b",1,"m.tag",null], ["@a:b",0,"m.tag",null],
+    ["@a:b",2,"m.tag",null], ["@a:b",3,"m.tag",null], ["@a:b",1,"m.tag",null], ["@a:b",0,"m.tag",null],
+    ["@a:b",2,"m.tag",null], ["@a:b",3,"m.tag",null], ["@a:b",1,"m.tag",null], ["@a:b",0,"m.tag",null]]"#;
 
-fn receipts(rt: &impl Abort, alloc: Global, count: u64) -> Result<Parts<Receipt>, Memory>
-    ensures { IfOk result (λ parts. receipt.AreInPlace parts.items) }
-{
-    let mut made = Vec::new(alloc);
-    'positions: for _position in 0..count {
-        push_receipt(rt, alloc, &mut made)?;
-    }
-    Parts::of(alloc, &made, count)
-}
-
-/// The entry at a position: the rooms take turns, and then the global data.
-fn entry(rt: &impl Abort, alloc: Global, position: u64) -> Entry
-    ensures { entries.position_of result ≡ position }
-{
-    Entry::Data {
-        user: user(rt, alloc, "@a:b"),
-        room: if position % 4 == 0 {
-            None
-        } else {
-            Some(room(position % 4))
-        },
-        kind: text(rt, alloc, "m.tag"),
-        content: Json::Null,
-        at: position,
-    }
-}
-
-fn push_entry(rt: &impl Abort, alloc: Global, made: &mut Vec<Entry>) -> Result<(), Memory>
-    requires { account.AreInPlace made.old.items }
-    ensures { OnOk result (account.AreInPlace made.new.items) }
-{
-    let position = made.len() as u64 + 1;
-    made.push(entry(rt, alloc, position))?;
-    Ok(())
-}
-
-fn accounts(rt: &impl Abort, alloc: Global, count: u64) -> Result<Parts<Entry>, Memory>
-    ensures { IfOk result (λ parts. account.AreInPlace parts.items) }
-{
-    let mut made = Vec::new(alloc);
-    'positions: for _position in 0..count {
-        push_entry(rt, alloc, &mut made)?;
-    }
-    Parts::of(alloc, &made, count)
-}
-
-/// A snapshot of so many receipts and entries.
-fn known(rt: &impl Abort, alloc: Global, count: u64) -> Result<Snapshot, Memory> {
-    let mut known = Snapshot::new(alloc);
-    let receipts = receipts(rt, alloc, count)?;
-    let accounts = accounts(rt, alloc, count)?;
-    known.advance(alloc, Parts::none(alloc), receipts, accounts)?;
-    Ok(known)
+/// A snapshot of these receipts and account data, and of no events.
+fn known(rt: &impl Abort, alloc: Global) -> Snapshot {
+    let receipts = receipts(rt, alloc, RECEIPTS).expect(rt, "memory");
+    let accounts = accounts(rt, alloc, DATA).expect(rt, "memory");
+    snapshot(alloc, &[], receipts, accounts).expect(rt, "memory")
 }
 
 fn receipts_digest(receipts: &Receipts, rt: &impl Abort, alloc: Global, low: u64) -> u64 {
-    let found = receipts.of_room(alloc, &room(1), low, 100);
+    let found = receipts.of_room(alloc, &room(2), low, 100);
     let mut sum = 0u64;
     for receipt in &found.expect(rt, "memory") {
         sum = with(sum, receipt.at);
@@ -105,7 +40,7 @@ fn receipts_digest(receipts: &Receipts, rt: &impl Abort, alloc: Global, low: u64
 }
 
 fn last_data(accounts: &Accounts, global: bool, last: u64) -> u64 {
-    let room = room(1);
+    let room = room(2);
     let asked = if global { None } else { Some(&room) };
     match accounts.last_of("@a:b", asked, "m.tag", last) {
         Some(Entry::Data { at, .. }) => *at,
@@ -115,25 +50,27 @@ fn last_data(accounts: &Accounts, global: bool, last: u64) -> u64 {
 
 #[test]
 fn receipts_are_found_by_room(rt: HostRuntime) {
-    let known = known(&rt, rt.alloc(), 12).expect(&rt, "memory");
+    let known = known(&rt, rt.alloc());
     let wanted = with(with(with(0, 4), 7), 10);
-    assert_eq!(&rt;
-        receipts_digest(&known.receipts, &rt, rt.alloc(), 1),
-        wanted
-    );
-    assert_eq!(&rt; known.receipts.last_in(&room(1)), 10);
+    let found = receipts_digest(&known.receipts, &rt, rt.alloc(), 1);
+    assert_eq!(&rt; found, wanted);
+    assert_eq!(&rt; known.receipts.last_in(&room(2)), 10);
     assert_eq!(&rt; known.receipts.front(), 12);
+    mem::forget(known);
+}
+
+/// How many entries of a user there are after position 9.
+fn newest(rt: &impl Abort, alloc: Global, accounts: &Accounts) -> usize {
+    let found = accounts.of_user(alloc, "@a:b", 9, 12);
+    found.expect(rt, "memory").len()
 }
 
 #[test]
 fn account_data_are_found_by_user_room_and_type(rt: HostRuntime) {
-    let known = known(&rt, rt.alloc(), 12).expect(&rt, "memory");
+    let known = known(&rt, rt.alloc());
     assert_eq!(&rt; last_data(&known.accounts, true, 11), 8);
     assert_eq!(&rt; last_data(&known.accounts, false, 8), 5);
-    let newest = known
-        .accounts
-        .of_user(rt.alloc(), "@a:b", 9, 12)
-        .expect(&rt, "memory");
-    assert_eq!(&rt; newest.len(), 3);
+    assert_eq!(&rt; newest(&rt, rt.alloc(), &known.accounts), 3);
     assert_eq!(&rt; known.accounts.last_in("@c:b"), 0);
+    mem::forget(known);
 }

@@ -1,10 +1,8 @@
 //! A thousand events in three rooms: what a snapshot finds is what plain scans find.
 
-ghost use Rattle.std.specs.Prelude.{◌≡◌, true, IfOk};
-ghost use Rattle.mx_window.specs.Windows.{stand_from};
-ghost use Rattle.mx_event.specs.Shown.{position_of};
-
-use crate::make::{events, room, user};
+use crate::known::snapshot;
+use crate::make::{events, room_at};
+use crate::rows::user;
 use crate::scans::{
     KIND, Look, digest, first_scanned, last_scanned, scanned, sees, state_scanned, with,
 };
@@ -15,17 +13,22 @@ use mx_snapshot::{Events, Snapshot, Steps, first_redactions_are, snapshots_cross
 use mx_state::{difference, state_at, state_event};
 use mx_visible::{Sighted, sight, visible};
 use std::alloc::Global;
+use std::mem;
 use std::process::Abort;
 use std::test::*;
 
-/// A snapshot of these events, and of no receipts and account data.
-pub fn snapshot(alloc: Global, events: &[Event]) -> Result<Snapshot, Memory>
-    requires { stand_from position_of 1 events.now ≡ true }
-{
-    let mut snapshot = Snapshot::new(alloc);
-    let parts = Parts::of(alloc, events, 1)?;
-    snapshot.advance(alloc, parts, Parts::none(alloc), Parts::none(alloc))?;
-    Ok(snapshot)
+/// A thousand events, and the snapshot of them.
+#[derive(Drop)]
+pub struct Thousand {
+    pub all: Vec<Event>,
+    pub known: Snapshot,
+}
+
+/// They are forgotten and not dropped.
+pub fn make_thousand(rt: &impl Abort, alloc: Global) -> Thousand {
+    let all = events(rt, alloc, 1000).expect(rt, "memory");
+    let known = snapshot(alloc, &all, Parts::none(alloc), Parts::none(alloc)).expect(rt, "memory");
+    Thousand { all, known }
 }
 
 fn found(
@@ -45,21 +48,20 @@ fn found(
     Ok(digest(&list))
 }
 
-fn expect_window(
-    rt: &impl Abort,
-    alloc: Global,
-    all: &[Event],
-    events: &Events,
-    low: u64,
-    high: u64,
-) {
-    for look in [Look::All, Look::Members, Look::States, Look::Versions] {
-        for number in 0..3u64 {
-            let room = room(number);
-            let found = found(alloc, events, look, &room, low, high).expect(rt, "memory");
-            assert_eq!(rt; found, scanned(all, look, &room, low, high));
-        }
+fn expect_found(rt: &impl Abort, alloc: Global, made: &Thousand, look: Look, low: u64, high: u64) {
+    for number in 0..3u64 {
+        let room = room_at(number);
+        let found = found(alloc, &made.known.events, look, &room, low, high);
+        let wanted = scanned(&made.all, look, &room, low, high);
+        assert!(rt; found == Ok(wanted));
     }
+}
+
+fn expect_window(rt: &impl Abort, alloc: Global, made: &Thousand, low: u64, high: u64) {
+    expect_found(rt, alloc, made, Look::All, low, high);
+    expect_found(rt, alloc, made, Look::Members, low, high);
+    expect_found(rt, alloc, made, Look::States, low, high);
+    expect_found(rt, alloc, made, Look::Versions, low, high);
 }
 
 /// The position of the state event that stands, which is found by at most seven comparisons among some ninety versions.
@@ -70,52 +72,73 @@ fn standing(rt: &impl Abort, events: &Events, room: &RoomId, high: u64) -> u64 {
     found.map_or(0, |event| event.id.at)
 }
 
-fn expect_last(rt: &impl Abort, alloc: Global, all: &[Event], events: &Events, high: u64) {
+/// The digest of the last event of a room up to a position.
+fn ending(rt: &impl Abort, alloc: Global, events: &Events, room: &RoomId, high: u64) -> u64 {
+    digest(&events.ending(alloc, room, high, 1).expect(rt, "memory"))
+}
+
+fn expect_last(rt: &impl Abort, alloc: Global, made: &Thousand, room: &RoomId, high: u64) {
+    let events = &made.known.events;
+    let version = events
+        .last_of(room, KIND, "", high)
+        .map_or(0, |event| event.id.at);
+    assert_eq!(rt;
+        version,
+        last_scanned(&made.all, Look::Versions, room, high)
+    );
+    assert_eq!(rt; standing(rt, events, room, high), version);
+    let last = ending(rt, alloc, events, room, high);
+    assert_eq!(rt; last, last_scanned(&made.all, Look::All, room, high));
+}
+
+fn expect_all_last(rt: &impl Abort, alloc: Global, made: &Thousand, high: u64) {
     for number in 0..3u64 {
-        let room = room(number);
-        let version = events
-            .last_of(&room, KIND, "", high)
-            .map_or(0, |event| event.id.at);
-        assert_eq!(rt; version, last_scanned(all, Look::Versions, &room, high));
-        assert_eq!(rt; standing(rt, events, &room, high), version);
-        let last = events.ending(alloc, &room, high, 1).expect(rt, "memory");
-        assert_eq!(rt; digest(&last), last_scanned(all, Look::All, &room, high));
+        expect_last(rt, alloc, made, &room_at(number), high);
     }
 }
 
 #[test]
 fn windows_are_as_scanned(rt: HostRuntime) {
-    let all = events(&rt, rt.alloc(), 1000).expect(&rt, "memory");
-    let known = snapshot(rt.alloc(), &all).expect(&rt, "memory");
-    expect_window(&rt, rt.alloc(), &all, &known.events, 0, 1000);
-    expect_window(&rt, rt.alloc(), &all, &known.events, 331, 667);
-    expect_last(&rt, rt.alloc(), &all, &known.events, 1000);
-    expect_last(&rt, rt.alloc(), &all, &known.events, 500);
+    let made = make_thousand(&rt, rt.alloc());
+    expect_window(&rt, rt.alloc(), &made, 0, 1000);
+    expect_window(&rt, rt.alloc(), &made, 331, 667);
+    expect_all_last(&rt, rt.alloc(), &made, 1000);
+    expect_all_last(&rt, rt.alloc(), &made, 500);
+    mem::forget(made);
 }
 
-fn expect_state(
+fn state_digest(rt: &impl Abort, alloc: Global, events: &Events, room: &RoomId, high: u64) -> u64 {
+    digest(&state_at(alloc, events, room, high).expect(rt, "memory"))
+}
+
+fn changed_digest(
     rt: &impl Abort,
     alloc: Global,
-    all: &[Event],
     events: &Events,
+    room: &RoomId,
     low: u64,
     high: u64,
-) {
+) -> u64 {
+    digest(&difference(alloc, events, room, low, high).expect(rt, "memory"))
+}
+
+fn expect_state(rt: &impl Abort, alloc: Global, made: &Thousand, low: u64, high: u64) {
+    let events = &made.known.events;
     for number in 0..3u64 {
-        let room = room(number);
-        let state = state_at(alloc, events, &room, high).expect(rt, "memory");
-        assert_eq!(rt; digest(&state), state_scanned(all, &room, 0, high));
-        let changed = difference(alloc, events, &room, low, high).expect(rt, "memory");
-        assert_eq!(rt; digest(&changed), state_scanned(all, &room, low, high));
+        let room = room_at(number);
+        let state = state_digest(rt, alloc, events, &room, high);
+        assert_eq!(rt; state, state_scanned(&made.all, &room, 0, high));
+        let changed = changed_digest(rt, alloc, events, &room, low, high);
+        assert_eq!(rt; changed, state_scanned(&made.all, &room, low, high));
     }
 }
 
 #[test]
 fn states_are_as_scanned(rt: HostRuntime) {
-    let all = events(&rt, rt.alloc(), 1000).expect(&rt, "memory");
-    let known = snapshot(rt.alloc(), &all).expect(&rt, "memory");
-    expect_state(&rt, rt.alloc(), &all, &known.events, 990, 1000);
-    expect_state(&rt, rt.alloc(), &all, &known.events, 3, 500);
+    let made = make_thousand(&rt, rt.alloc());
+    expect_state(&rt, rt.alloc(), &made, 990, 1000);
+    expect_state(&rt, rt.alloc(), &made, 3, 500);
+    mem::forget(made);
 }
 
 fn expect_redactions(rt: &impl Abort, all: &[Event], events: &Events, high: u64) {
@@ -129,10 +152,10 @@ fn expect_redactions(rt: &impl Abort, all: &[Event], events: &Events, high: u64)
 
 #[test]
 fn redactions_are_as_scanned(rt: HostRuntime) {
-    let all = events(&rt, rt.alloc(), 1000).expect(&rt, "memory");
-    let known = snapshot(rt.alloc(), &all).expect(&rt, "memory");
-    expect_redactions(&rt, &all, &known.events, 1000);
-    expect_redactions(&rt, &all, &known.events, 950);
+    let made = make_thousand(&rt, rt.alloc());
+    expect_redactions(&rt, &made.all, &made.known.events, 1000);
+    expect_redactions(&rt, &made.all, &made.known.events, 950);
+    mem::forget(made);
 }
 
 /// The digest of the events of a room that a plain scan lets a user see, of those in a window.
@@ -173,30 +196,43 @@ fn seen_alone(
     sum
 }
 
-fn expect_seen(
+/// The digest of the events of a room that a walk lets a user see, of those after a position.
+fn seen_by_walk(
     rt: &impl Abort,
     alloc: Global,
-    all: &[Event],
     events: &Events,
-    name: &str,
+    user: &UserId,
+    room: &RoomId,
+    low: u64,
     front: u64,
-) {
+) -> u64 {
+    let walked = sight(alloc, events, user, room, low, 1000, front).expect(rt, "memory");
+    seen_in(&walked)
+}
+
+fn expect_seen(rt: &impl Abort, alloc: Global, made: &Thousand, name: &str, front: u64) {
     let user = user(rt, alloc, name);
-    let room = room(1);
-    let wanted = seen_by_scan(all, &user, &room, 880, front);
-    assert_eq!(rt; seen_alone(all, events, &user, &room, 880, front), wanted);
-    let walked = sight(alloc, events, &user, &room, 880, 1000, front).expect(rt, "memory");
-    assert_eq!(rt; seen_in(&walked), wanted);
+    let room = room_at(1);
+    let events = &made.known.events;
+    let wanted = seen_by_scan(&made.all, &user, &room, 880, front);
+    assert_eq!(rt;
+        seen_alone(&made.all, events, &user, &room, 880, front),
+        wanted
+    );
+    assert_eq!(rt;
+        seen_by_walk(rt, alloc, events, &user, &room, 880, front),
+        wanted
+    );
 }
 
 #[test]
 fn users_see_as_scanned(rt: HostRuntime) {
-    let all = events(&rt, rt.alloc(), 1000).expect(&rt, "memory");
-    let known = snapshot(rt.alloc(), &all).expect(&rt, "memory");
-    expect_seen(&rt, rt.alloc(), &all, &known.events, "@a:b", 1000);
-    expect_seen(&rt, rt.alloc(), &all, &known.events, "@c:b", 1000);
-    expect_seen(&rt, rt.alloc(), &all, &known.events, "@d:b", 1000);
-    expect_seen(&rt, rt.alloc(), &all, &known.events, "@a:b", 940);
+    let made = make_thousand(&rt, rt.alloc());
+    expect_seen(&rt, rt.alloc(), &made, "@a:b", 1000);
+    expect_seen(&rt, rt.alloc(), &made, "@c:b", 1000);
+    expect_seen(&rt, rt.alloc(), &made, "@d:b", 1000);
+    expect_seen(&rt, rt.alloc(), &made, "@a:b", 940);
+    mem::forget(made);
 }
 
 /// The rooms of a user, each with the position of its last member event.
@@ -220,19 +256,22 @@ fn last_own(all: &[Event], room: &RoomId, name: &str) -> u64 {
     last
 }
 
+/// The same by a plain scan.
+fn rooms_scanned(all: &[Event], name: &str) -> u64 {
+    let mut sum = 0u64;
+    for number in 0..3u64 {
+        let room = room_at(number);
+        sum = with(with(sum, room.at), last_own(all, &room, name));
+    }
+    sum
+}
+
 #[test]
 fn rooms_of_a_user_are_as_scanned(rt: HostRuntime) {
-    let all = events(&rt, rt.alloc(), 1000).expect(&rt, "memory");
-    let known = snapshot(rt.alloc(), &all).expect(&rt, "memory");
-    let mut wanted = 0u64;
-    for number in 0..3u64 {
-        let room = room(number);
-        wanted = with(with(wanted, room.at), last_own(&all, &room, "@a:b"));
-    }
-    assert_eq!(&rt;
-        rooms_digest(&rt, rt.alloc(), &known.events, "@a:b"),
-        wanted
-    );
+    let made = make_thousand(&rt, rt.alloc());
+    let found = rooms_digest(&rt, rt.alloc(), &made.known.events, "@a:b");
+    assert_eq!(&rt; found, rooms_scanned(&made.all, "@a:b"));
+    mem::forget(made);
 }
 
 #[test]

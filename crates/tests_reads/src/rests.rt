@@ -1,24 +1,21 @@
 //! Receipts and account data of a room as its users see them, whole and what came after a token.
 
-ghost use Rattle.std.specs.Prelude.{◌≡◌, true, IfOk, OnOk};
-ghost use Rattle.mx_account.specs.Entries as entries;
-ghost use Rattle.mx_account.specs.Values as account;
-ghost use Rattle.mx_receipt.specs.Receipts as receipt;
+ghost use Rattle.std.specs.Prelude.{◌≡◌, true, IfOk};
 ghost use Rattle.mx_fold.specs.Lists.{fronts_of};
 ghost use Rattle.mx_view.specs.Tokens.{is_before};
 ghost use Rattle.mx_rest.specs.Servers.{AreValid, lists_of};
 
-use crate::make::{json, user};
+use crate::known::{self, accounts, receipts};
+use crate::rows::{at, is_true, json, list, number_in, room, str_in, user};
 use crate::scans::with;
-use mx_account::Entry;
 use mx_filter::{Filter, read};
-use mx_ids::{Copied, EventId, Memory, RoomId, Seq, SyncToken, Text};
+use mx_ids::{Memory, Seq, SyncToken, Text};
 use mx_json::Json;
-use mx_lanes::Parts;
-use mx_receipt::{Receipt, ReceiptKind};
+use mx_receipt::Receipt;
 use mx_rest::{Rest, change, section_law, view};
 use mx_snapshot::Snapshot;
 use std::alloc::Global;
+use std::mem;
 use std::process::Abort;
 use std::test::*;
 
@@ -59,126 +56,13 @@ const CHANGES: &str = r#"[
     ["@c:b",{},6,4,[],[],false],
     ["@a:b",{},6,5,[],[],false]]"#;
 
-fn part<'a>(rt: &impl Abort, row: &'a Json, index: usize) -> &'a Json {
-    let list = row.as_list().expect(rt, "a list").as_slice();
-    list.get(index).expect(rt, "an entry")
-}
-
-fn number(rt: &impl Abort, row: &Json, index: usize) -> u64 {
-    let number = part(rt, row, index).as_int().expect(rt, "a number");
-    u64::try_from(number).expect(rt, "a number from 0 on")
-}
-
-fn name<'a>(rt: &impl Abort, row: &'a Json, index: usize) -> &'a Text {
-    part(rt, row, index).as_text().expect(rt, "a text")
-}
-
-fn is_true(rt: &impl Abort, row: &Json, index: usize) -> bool {
-    part(rt, row, index).as_bool().expect(rt, "true or false")
-}
-
-fn room(number: u64) -> RoomId {
-    RoomId {
-        writer: 0,
-        at: number,
-    }
-}
-
-fn receipt(rt: &impl Abort, alloc: Global, row: &Json, position: u64) -> Receipt
-    ensures { receipt.position_of result ≡ position }
-{
-    Receipt {
-        room: room(number(rt, row, 0)),
-        user: user(rt, alloc, name(rt, row, 1).as_str()),
-        kind: if is_true(rt, row, 2) {
-            ReceiptKind::Private
-        } else {
-            ReceiptKind::Read
-        },
-        event: EventId {
-            at: number(rt, row, 3),
-        },
-        ts: 0,
-        at: position,
-    }
-}
-
-fn push_receipt(
-    rt: &impl Abort,
-    alloc: Global,
-    row: &Json,
-    made: &mut Vec<Receipt>,
-) -> Result<(), Memory>
-    requires { receipt.AreInPlace made.old.items }
-    ensures { OnOk result (receipt.AreInPlace made.new.items) }
-{
-    let position = made.len() as u64 + 1;
-    made.push(receipt(rt, alloc, row, position))?;
-    Ok(())
-}
-
-fn receipts(rt: &impl Abort, alloc: Global) -> Result<Parts<Receipt>, Memory>
-    ensures { IfOk result (λ parts. receipt.AreInPlace parts.items) }
-{
-    let rows = json(rt, alloc, RECEIPTS);
-    let mut made = Vec::new(alloc);
-    'rows: for row in rows.as_list().expect(rt, "a list").as_slice() {
-        push_receipt(rt, alloc, row, &mut made)?;
-    }
-    Parts::of(alloc, &made, 6)
-}
-
-fn entry(rt: &impl Abort, alloc: Global, row: &Json, position: u64) -> Entry
-    ensures { entries.position_of result ≡ position }
-{
-    let in_room = number(rt, row, 1);
-    Entry::Data {
-        user: user(rt, alloc, name(rt, row, 0).as_str()),
-        room: if in_room == 0 {
-            None
-        } else {
-            Some(room(in_room))
-        },
-        kind: name(rt, row, 2).copy(alloc).expect(rt, "memory"),
-        content: part(rt, row, 3).copy(alloc).expect(rt, "memory"),
-        at: position,
-    }
-}
-
-fn push_entry(
-    rt: &impl Abort,
-    alloc: Global,
-    row: &Json,
-    made: &mut Vec<Entry>,
-) -> Result<(), Memory>
-    requires { account.AreInPlace made.old.items }
-    ensures { OnOk result (account.AreInPlace made.new.items) }
-{
-    let position = made.len() as u64 + 1;
-    made.push(entry(rt, alloc, row, position))?;
-    Ok(())
-}
-
-fn accounts(rt: &impl Abort, alloc: Global) -> Result<Parts<Entry>, Memory>
-    ensures { IfOk result (λ parts. account.AreInPlace parts.items) }
-{
-    let rows = json(rt, alloc, DATA);
-    let mut made = Vec::new(alloc);
-    'rows: for row in rows.as_list().expect(rt, "a list").as_slice() {
-        push_entry(rt, alloc, row, &mut made)?;
-    }
-    Parts::of(alloc, &made, 6)
-}
-
 /// A snapshot of these receipts and account data, and of no events.
 fn snapshot(rt: &impl Abort, alloc: Global) -> Result<Snapshot, Memory>
     ensures { IfOk result (λ known. AreValid (lists_of known)) }
 {
-    let mut known = Snapshot::new(alloc);
-    let receipts = receipts(rt, alloc)?;
-    let accounts = accounts(rt, alloc)?;
-    known.advance(alloc, Parts::none(alloc), receipts, accounts)?;
-    Ok(known)
+    let receipts = receipts(rt, alloc, RECEIPTS)?;
+    let accounts = accounts(rt, alloc, DATA)?;
+    known::snapshot(alloc, &[], receipts, accounts)
 }
 
 fn events_digest(receipts: &Seq<Receipt>) -> u64 {
@@ -205,20 +89,16 @@ fn contents_digest(account: &Seq<(Text, Json)>) -> u64 {
 
 /// The digest of the numbers that stand at an index of a row.
 fn numbers_digest(rt: &impl Abort, row: &Json, index: usize) -> u64 {
+    let numbers = at(rt, row, index);
     let mut sum = 0u64;
-    for entry in part(rt, row, index)
-        .as_list()
-        .expect(rt, "a list")
-        .as_slice()
-    {
-        let number = u64::try_from(entry.as_int().expect(rt, "a number"));
-        sum = with(sum, number.expect(rt, "a number from 0 on"));
+    for index in 0..list(rt, numbers).len() {
+        sum = with(sum, number_in(rt, numbers, index));
     }
     sum
 }
 
 fn filter(rt: &impl Abort, alloc: Global, row: &Json) -> Filter {
-    read(alloc, part(rt, row, 1)).expect(rt, "a filter")
+    read(alloc, at(rt, row, 1)).expect(rt, "a filter")
 }
 
 fn seen(alloc: Global, rest: &Rest<'_>) -> Result<u64, Memory>
@@ -239,7 +119,7 @@ fn expect_view(rt: &impl Abort, alloc: Global, known: &Snapshot, row: &Json)
     requires { AreValid (lists_of known.now) }
 {
     let wanted = with(numbers_digest(rt, row, 2), numbers_digest(rt, row, 3));
-    let user = user(rt, alloc, name(rt, row, 0).as_str());
+    let user = user(rt, alloc, str_in(rt, row, 0));
     let filter = filter(rt, alloc, row);
     let rest = Rest {
         snapshot: known,
@@ -254,7 +134,7 @@ fn expect_views(rt: &impl Abort, alloc: Global, known: &Snapshot)
     requires { AreValid (lists_of known.now) }
 {
     let rows = json(rt, alloc, VIEWS);
-    for row in rows.as_list().expect(rt, "a list").as_slice() {
+    for row in list(rt, &rows) {
         expect_view(rt, alloc, known, row);
     }
 }
@@ -263,6 +143,7 @@ fn expect_views(rt: &impl Abort, alloc: Global, known: &Snapshot)
 fn standing_receipts_and_last_contents_are_seen(rt: HostRuntime) {
     let known = snapshot(&rt, rt.alloc()).expect(&rt, "memory");
     expect_views(&rt, rt.alloc(), &known);
+    mem::forget(known);
     section_law();
 }
 
@@ -270,7 +151,7 @@ fn standing_receipts_and_last_contents_are_seen(rt: HostRuntime) {
 fn token(rt: &impl Abort, known: &Snapshot, row: &Json) -> SyncToken
     ensures { is_before result (fronts_of (lists_of known.now)) ≡ true }
 {
-    let (r, a) = (number(rt, row, 2), number(rt, row, 3));
+    let (r, a) = (number_in(rt, row, 2), number_in(rt, row, 3));
     assert!(rt; r <= known.receipts.front() && a <= known.accounts.front());
     SyncToken {
         e: 0,
@@ -304,7 +185,7 @@ fn expect_change(rt: &impl Abort, alloc: Global, known: &Snapshot, row: &Json)
     let wanted = with(numbers_digest(rt, row, 4), numbers_digest(rt, row, 5));
     let differs = is_true(rt, row, 6);
     let since = token(rt, known, row);
-    let user = user(rt, alloc, name(rt, row, 0).as_str());
+    let user = user(rt, alloc, str_in(rt, row, 0));
     let filter = filter(rt, alloc, row);
     let rest = Rest {
         snapshot: known,
@@ -320,7 +201,7 @@ fn expect_changes(rt: &impl Abort, alloc: Global, known: &Snapshot)
     requires { AreValid (lists_of known.now) }
 {
     let rows = json(rt, alloc, CHANGES);
-    for row in rows.as_list().expect(rt, "a list").as_slice() {
+    for row in list(rt, &rows) {
         expect_change(rt, alloc, known, row);
     }
 }
@@ -329,4 +210,5 @@ fn expect_changes(rt: &impl Abort, alloc: Global, known: &Snapshot)
 fn changes_say_what_came(rt: HostRuntime) {
     let known = snapshot(&rt, rt.alloc()).expect(&rt, "memory");
     expect_changes(&rt, rt.alloc(), &known);
+    mem::forget(known);
 }

@@ -6,5 +6,5 @@ use Rattle.tests_reads.proofs.make.push_next.Goals as goal
 
 pub returns : goal.returns
 returns g c =
-    let next : position_of c.event.result ≡ 1 + length c.args.events.now.items = omega (arith, c.event.ensures, c.len.ensures) in
+    let next : position_of c.event.result ≡ 1 + length c.args.events.now.items = omega (arith, c.event.ensures.at, c.len.ensures) in
     subst (λ l. stand_from position_of 1 l ≡ true) (sym c.in_ok-push.ensures.items) (stand_from-push position_of 1 c.args.events.now.items c.event.result c.requires next)

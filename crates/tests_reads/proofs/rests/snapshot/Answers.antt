@@ -1,8 +1,9 @@
-use Rattle.std.proofs.Common.{◌++◌, sym, ap}
+use Rattle.std.proofs.Common.{List, refl, sym, subst}
+use Rattle.std.proofs.lemmas.Result.{IfOk-weaker}
+use Rattle.mx_event.specs.Lawful.{of_room}
+use Rattle.mx_event.specs.Valid.{IsValid}
+use Rattle.mx_event.specs.declared.event.Event.{Event}
 use Rattle.tests_reads.proofs.rests.snapshot.Goals as goal
 
-pub advance-requires-clause-receipts : goal.advance-requires-clause-receipts
-advance-requires-clause-receipts g c = (c.in_ok-receipts.receipts.items, ap (λ l. l ++ c.in_ok-receipts.receipts.items) (sym c.new-known.ensures.receipts))
-
-pub advance-requires-clause-accounts : goal.advance-requires-clause-accounts
-advance-requires-clause-accounts g c = (c.in_ok-accounts.accounts.items, ap (λ l. l ++ c.in_ok-accounts.accounts.items) (sym c.new-known.ensures.accounts))
+pub returns : goal.returns
+returns g c = IfOk-weaker c.snapshot.result _ _ (λ known same r. subst (λ (l : List Event). IsValid (of_room r l)) (sym same) record { ascends = tt; valid = refl }) c.snapshot.ensures

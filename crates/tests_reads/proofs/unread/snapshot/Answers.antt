@@ -1,18 +1,16 @@
-use Rattle.std.proofs.Common.{◌++◌, List, sym, ap, subst, ◌∙◌}
+use Rattle.std.proofs.Common.{◌≡◌, true, List, sym, subst, ◌∙◌}
+use Rattle.std.proofs.lemmas.Result.{IfOk-weaker}
+use Rattle.mx_window.specs.Windows.{stand_from}
 use Rattle.mx_event.specs.Lawful.{of_room}
+use Rattle.mx_event.specs.Shown.{position_of}
 use Rattle.mx_event.specs.Valid.{IsValid}
 use Rattle.mx_event.specs.declared.event.Event.{Event}
-use Rattle.mx_lanes.specs.Parts.{Taken}
 use Rattle.tests_reads.proofs.Built.{rooms_valid}
 use Rattle.tests_reads.proofs.unread.snapshot.Goals as goal
 
-pub advance-requires-clause-receipts : goal.advance-requires-clause-receipts
-advance-requires-clause-receipts g c = (c.in_ok-receipts.field-0.items, ap (λ l. l ++ c.in_ok-receipts.field-0.items) (sym c.new-known.ensures.receipts))
-
-pub advance-requires-clause-accounts : goal.advance-requires-clause-accounts
-advance-requires-clause-accounts g c = (c.in_ok-accounts.field-0.items, ap (λ l. l ++ c.in_ok-accounts.field-0.items) (sym c.new-known.ensures.accounts))
+pub snapshot-requires-clause-events : goal.snapshot-requires-clause-events
+snapshot-requires-clause-events g c = subst (λ (l : List Event). stand_from position_of 1 l ≡ true) (sym c.deref.ensures.value) c.in_ok-events.ensures.placed
 
 pub returns : goal.returns
-returns g c = λ r. subst (λ (l : List Event). IsValid (of_room r l))
-    (sym (c.in_ok-advance.ensures.events ∙ ap (λ (p : Taken Event). p.items) c.in_ok-parts.ensures ∙ c.deref.ensures.value))
-    (rooms_valid c.in_ok-events.events.items c.in_ok-events.ensures r)
+returns g c = IfOk-weaker c.snapshot.result _ _ (λ known same r. subst (λ (l : List Event). IsValid (of_room r l)) (sym (same ∙ c.deref.ensures.value))
+    (rooms_valid c.in_ok-events.events.items c.in_ok-events.ensures r)) c.snapshot.ensures

@@ -1,7 +1,7 @@
 use Rattle.std.proofs.Common.{◌≡◌, true}
 use Rattle.mx_window.specs.Windows.{stand_from}
 use Rattle.mx_event.specs.Shown.{position_of}
-use Rattle.tests_reads.proofs.members.events.Given as goal
+use Rattle.tests_reads.proofs.make.events_of.Given as goal
 
 abbrev pub invariant-rows : goal.invariant-rows
 invariant-rows g l = stand_from position_of 1 l.made.items ≡ true

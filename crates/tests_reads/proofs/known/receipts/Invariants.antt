@@ -1,5 +1,5 @@
 use Rattle.mx_receipt.specs.Receipts.{AreInPlace}
-use Rattle.tests_reads.proofs.rests.receipts.Given as goal
+use Rattle.tests_reads.proofs.known.receipts.Given as goal
 
 abbrev pub invariant-rows : goal.invariant-rows
 invariant-rows g l = AreInPlace l.made.items

@@ -2,7 +2,7 @@ use Rattle.std.proofs.Common.{◌≡◌, ◌+◌, length, sym, subst, arith}
 use Rattle.mx_window.proofs.Intervals.{stand_from-push}
 use Rattle.mx_account.specs.Entries.{position_of}
 use Rattle.mx_account.specs.Values.{AreInPlace}
-use Rattle.tests_reads.proofs.rests.push_entry.Goals as goal
+use Rattle.tests_reads.proofs.known.push_entry.Goals as goal
 
 pub returns : goal.returns
 returns g c =

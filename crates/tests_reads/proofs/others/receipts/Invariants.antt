@@ -1,5 +1,0 @@
-use Rattle.mx_receipt.specs.Receipts.{AreInPlace}
-use Rattle.tests_reads.proofs.others.receipts.Given as goal
-
-abbrev pub invariant-positions : goal.invariant-positions
-invariant-positions g l = AreInPlace l.made.items
