@@ -12,6 +12,7 @@ use mx_json::Json;
 use mx_pager::{Bound, Page, PageAsk, PageFault, page};
 use mx_snapshot::Snapshot;
 use std::alloc::Global;
+use std::mem;
 use std::process::Abort;
 use std::test::*;
 
@@ -57,6 +58,14 @@ fn asked(rt: &impl Abort, alloc: Global, known: &Snapshot, row: &Json) -> Result
     page(alloc, known, &user, &ask)
 }
 
+/// The page that a row asks of a story. The snapshot is forgotten and not dropped.
+fn answer(rt: &impl Abort, alloc: Global, story: &Json, row: &Json) -> Result<Page, PageFault> {
+    let known = known(rt, alloc, story, number(rt, row, 1), 0).expect(rt, "memory");
+    let found = asked(rt, alloc, &known, row);
+    mem::forget(known);
+    found
+}
+
 /// Whether events stand at these positions.
 fn are_at(rt: &impl Abort, events: &Seq<Shown>, positions: &Json) -> bool {
     let wanted = list(rt, positions);
@@ -80,9 +89,9 @@ fn page_is(rt: &impl Abort, page: &Page, row: &Json) -> bool {
 }
 
 fn expect_row(rt: &impl Abort, alloc: Global, story: &Json, row: &Json) {
-    let known = known(rt, alloc, story, number(rt, row, 1), 0).expect(rt, "memory");
-    let found = asked(rt, alloc, &known, row).expect(rt, "a page");
+    let found = answer(rt, alloc, story, row).expect(rt, "a page");
     assert!(rt; page_is(rt, &found, row));
+    mem::forget(found);
 }
 
 fn expect_all(rt: &impl Abort, alloc: Global, story: &str, rows: &str) {
@@ -104,8 +113,7 @@ fn pages_close_the_gap_that_a_sync_left(rt: HostRuntime) {
 fn refused(rt: &impl Abort, alloc: Global, row: &str) -> Option<PageFault> {
     let story = json(rt, alloc, HIDDEN);
     let row = json(rt, alloc, row);
-    let known = known(rt, alloc, &story, number(rt, &row, 1), 0).expect(rt, "memory");
-    asked(rt, alloc, &known, &row).err()
+    answer(rt, alloc, &story, &row).err()
 }
 
 #[test]

@@ -1,21 +1,18 @@
 //! Replies as JSON.
 
-use crate::built::known;
-use crate::parts::{json, number};
-use crate::replies::{INVITED, MESSAGES, STAYS, asked};
+use crate::replies::{INVITED, MESSAGES, STAYS, answer_to};
 use mx_ids::Text;
 use mx_sync_json::reply_form;
 use std::alloc::Global;
+use std::mem;
 use std::process::Abort;
 use std::test::*;
 
 /// The text of the reply to what a row asks, as the device 0 sees it.
 fn text_of(rt: &impl Abort, alloc: Global, story: &str, row: &str) -> Text {
-    let story = json(rt, alloc, story);
-    let row = json(rt, alloc, row);
-    let known = known(rt, alloc, &story, number(rt, &row, 1), 0).expect(rt, "memory");
-    let found = asked(rt, alloc, &known, &row).expect(rt, "a reply");
+    let found = answer_to(rt, alloc, story, row).expect(rt, "a reply");
     let form = reply_form(alloc, "b", 0, &found).expect(rt, "memory");
+    mem::forget(found);
     let mut text = Text::new(alloc);
     form.write(alloc, &mut text).expect(rt, "memory");
     text
