@@ -5,6 +5,7 @@ use mx_filter::{DataPart, Filter, FilterFault, Part, everything, read, read_part
 use mx_ids::{EventId, RoomId};
 use mx_json::Json;
 use std::alloc::Global;
+use std::mem;
 use std::process::Abort;
 
 /// The id of a room, as text.
@@ -20,12 +21,22 @@ fn refusal_is(fault: Option<FilterFault>, path: &str) -> bool {
     }
 }
 
+/// Whether a filter is refused for the field that its row names, or read where the row names none.
+fn is_refused(rt: &impl Abort, alloc: Global, row: &Json) -> bool {
+    refusal_is(read(alloc, at(rt, row, 0)).err(), str_in(rt, row, 1))
+}
+
+/// Asserts of the filter of each row for which field it is refused.
+fn expect_refusals(rt: &impl Abort, alloc: Global, rows: &str) {
+    let rows = json(rt, alloc, rows);
+    for row in list(rt, &rows) {
+        assert!(rt; is_refused(rt, alloc, row));
+    }
+}
+
 #[test]
 fn the_first_wrong_field_in_the_order_of_paths_is_named(rt: HostRuntime) {
-    let rows = json(
-        &rt,
-        rt.alloc(),
-        r#"[
+    let rows = r#"[
         [{}, ""],
         [[], "body"],
         [{"room":{},"unknown":1,"event_format":"client","event_fields":["a"]}, ""],
@@ -41,20 +52,13 @@ fn the_first_wrong_field_in_the_order_of_paths_is_named(rt: HostRuntime) {
         [{"room":{"state":{"senders":["a",1]}}}, "room.state.senders"],
         [{"room":{"ephemeral":{"not_types":{}},"include_leave":"true"}}, "room.ephemeral.not_types"],
         [{"room":{"include_leave":"true","not_rooms":1}}, "room.include_leave"]
-    ]"#,
-    );
-    for row in list(&rt, &rows) {
-        let fault = read(rt.alloc(), at(&rt, row, 0)).err();
-        assert!(&rt; refusal_is(fault, str_in(&rt, row, 1)));
-    }
+    ]"#;
+    expect_refusals(&rt, rt.alloc(), rows);
 }
 
 #[test]
 fn each_known_field_has_its_shape(rt: HostRuntime) {
-    let rows = json(
-        &rt,
-        rt.alloc(),
-        r#"[
+    let rows = r#"[
         [{"account_data":{"not_senders":"a","limit":"1"}}, "account_data.limit"],
         [{"account_data":{"not_types":[1],"not_senders":"a"}}, "account_data.not_senders"],
         [{"account_data":{"senders":{},"not_types":[1]}}, "account_data.not_types"],
@@ -110,12 +114,13 @@ fn each_known_field_has_its_shape(rt: HostRuntime) {
         [{"room":{"timeline":{"senders":{},"rooms":false}}}, "room.timeline.rooms"],
         [{"room":{"timeline":{"types":[null],"senders":{}}}}, "room.timeline.senders"],
         [{"room":{"timeline":{"types":[null]}}}, "room.timeline.types"]
-    ]"#,
-    );
-    for row in list(&rt, &rows) {
-        let fault = read(rt.alloc(), at(&rt, row, 0)).err();
-        assert!(&rt; refusal_is(fault, str_in(&rt, row, 1)));
-    }
+    ]"#;
+    expect_refusals(&rt, rt.alloc(), rows);
+}
+
+/// Whether the filter of a page is refused for the field that its row names, or read where the row names none.
+fn is_part_refused(rt: &impl Abort, alloc: Global, row: &Json) -> bool {
+    refusal_is(read_part(alloc, at(rt, row, 0)).err(), str_in(rt, row, 1))
 }
 
 #[test]
@@ -141,8 +146,7 @@ fn the_filter_of_a_page_is_one_of_events(rt: HostRuntime) {
     ]"#,
     );
     for row in list(&rt, &rows) {
-        let fault = read_part(rt.alloc(), at(&rt, row, 0)).err();
-        assert!(&rt; refusal_is(fault, str_in(&rt, row, 1)));
+        assert!(&rt; is_part_refused(&rt, rt.alloc(), row));
     }
 }
 
@@ -161,13 +165,22 @@ fn event(rt: &impl Abort, alloc: Global, row: &Json) -> Event {
     }
 }
 
-fn passes(rt: &impl Abort, alloc: Global, row: &Json) -> bool {
-    let filter = read(alloc, at(rt, row, 0)).expect(rt, "a filter");
+/// Whether a filter lets an event of the part pass that a row names.
+fn passes(rt: &impl Abort, filter: &Filter, event: &Event, row: &Json) -> bool {
     let part = match str_in(rt, row, 1) {
         "state" => Part::State,
         _ => Part::Timeline,
     };
-    filter.passes(part, ROOM, &event(rt, alloc, row))
+    filter.passes(part, ROOM, event)
+}
+
+/// Whether the event of a row passes where the row says so.
+fn is_passed(rt: &impl Abort, alloc: Global, row: &Json) -> bool {
+    let filter = read(alloc, at(rt, row, 0)).expect(rt, "a filter");
+    let event = event(rt, alloc, row);
+    let found = passes(rt, &filter, &event, row);
+    mem::forget(event);
+    found == bool_in(rt, row, 5)
 }
 
 #[test]
@@ -200,7 +213,7 @@ fn an_event_passes_by_each_list(rt: HostRuntime) {
     ]"#,
     );
     for row in list(&rt, &rows) {
-        assert!(&rt; passes(&rt, rt.alloc(), row) == bool_in(&rt, row, 5));
+        assert!(&rt; is_passed(&rt, rt.alloc(), row));
     }
 }
 
@@ -212,6 +225,18 @@ fn says(rt: &impl Abort, filter: &Filter, row: &Json) -> bool {
         && filter.selection.include_leave == bool_in(rt, row, 4)
         && filter.passes_type(DataPart::Account, "m.direct") == bool_in(rt, row, 5)
         && filter.passes_type(DataPart::Ephemeral, "m.receipt") == bool_in(rt, row, 6)
+}
+
+/// Whether the filter of a row says what the row says.
+fn is_said(rt: &impl Abort, alloc: Global, row: &Json) -> bool {
+    let filter = read(alloc, at(rt, row, 0)).expect(rt, "a filter");
+    says(rt, &filter, row)
+}
+
+/// Whether the filter that lets everything pass says what a row says.
+fn all_says(rt: &impl Abort, alloc: Global, row: &Json) -> bool {
+    let all = everything(alloc).expect(rt, "memory");
+    says(rt, &all, row)
 }
 
 #[test]
@@ -234,10 +259,7 @@ fn a_filter_says_its_limit_rooms_and_types(rt: HostRuntime) {
     ]"#,
     );
     for row in list(&rt, &rows) {
-        let filter = read(rt.alloc(), at(&rt, row, 0)).expect(&rt, "a filter");
-        assert!(&rt; says(&rt, &filter, row));
+        assert!(&rt; is_said(&rt, rt.alloc(), row));
     }
-    let all = everything(rt.alloc()).expect(&rt, "memory");
-    let row = at(&rt, &rows, 0);
-    assert!(&rt; says(&rt, &all, row));
+    assert!(&rt; all_says(&rt, rt.alloc(), at(&rt, &rows, 0)));
 }

@@ -1,12 +1,13 @@
 //! What push rules say of events. The rules are those of `@al:example.org`, whose display name is `Al Name`.
-use crate::make::{at, json, list, str_in, text_in, user_in};
+use crate::make::{al, at, default_rules, json, kind_of, list, str_in, text, text_in, user_in};
 use mx_auth::AuthState;
 use mx_event::Event;
-use mx_ids::{Copied, EventId, RoomId};
+use mx_ids::{Copied, EventId, RoomId, Text, UserId};
 use mx_json::Json;
 use mx_push::{Context, decide};
-use mx_rules::{Kind, RuleSet, defaults};
+use mx_rules::RuleSet;
 use std::alloc::Global;
+use std::mem;
 use std::process::Abort;
 
 /// The event of a row: its type, its state key or `null`, its sender and its content.
@@ -28,36 +29,43 @@ fn event(rt: &impl Abort, alloc: Global, row: &Json) -> Event {
     }
 }
 
-fn name_of(said: Option<bool>) -> &'static str {
-    match said {
-        Some(true) => "highlight",
-        Some(false) => "notify",
+fn name_of(is_highlight: bool) -> &'static str {
+    if is_highlight { "highlight" } else { "notify" }
+}
+
+/// The user of whom the rules are, with its display name, and the state of the room. It is forgotten and not dropped, since
+/// that drop would stand in the proof of each function that owns one.
+#[derive(Drop)]
+struct Owner {
+    user: UserId,
+    name: Text,
+    rules: RuleSet,
+    state: AuthState,
+}
+
+/// What the rules say of an event in a room with so many members.
+fn said(owner: &Owner, event: &Event, joined: u64) -> &'static str {
+    let context = Context {
+        user: &owner.user,
+        name: Some(&owner.name),
+        joined,
+        state: &owner.state,
+        room: "!1_2:example.org",
+        event_id: "$7:example.org",
+    };
+    match decide(&owner.rules, event, &context) {
+        Some(notify) => name_of(notify.highlight),
         None => "",
     }
 }
 
 /// Whether the rules say of the event of a row, in a room with as many members as the row says, what the row says.
-fn is_said(rt: &impl Abort, alloc: Global, rules: &RuleSet, state: &AuthState, row: &Json) -> bool {
-    let me = json(rt, alloc, r#"["@al:example.org", "Al Name"]"#);
-    let user = user_in(rt, alloc, &me, 0);
-    let name = at(rt, &me, 1).as_text();
+fn is_said(rt: &impl Abort, alloc: Global, owner: &Owner, row: &Json) -> bool {
+    let joined = at(rt, row, 4).as_int().expect(rt, "a number");
     let event = event(rt, alloc, row);
-    let context = Context {
-        user: &user,
-        name,
-        joined: at(rt, row, 4)
-            .as_int()
-            .expect(rt, "a number")
-            .unsigned_abs(),
-        state,
-        room: "!1_2:example.org",
-        event_id: "$7:example.org",
-    };
-    let said = match decide(rules, &event, &context) {
-        Some(notify) => Some(notify.highlight),
-        None => None,
-    };
-    name_of(said) == str_in(rt, row, 5)
+    let found = said(owner, &event, joined.unsigned_abs());
+    mem::forget(event);
+    found == str_in(rt, row, 5)
 }
 
 /// A room in which `@bo:example.org` has the level 50 and `@di:example.org` 40, the one that notifying the team needs.
@@ -67,22 +75,62 @@ fn state(rt: &impl Abort, alloc: Global) -> AuthState {
         alloc,
         r#"["m.room.power_levels", "", "@bo:example.org", {"notifications":{"team":40},"users":{"@bo:example.org":50,"@di:example.org":40}}]"#,
     );
+    let levels = event(rt, alloc, &levels);
     let mut state = AuthState::empty(alloc);
-    state.take(&event(rt, alloc, &levels)).expect(rt, "memory");
+    state.take(&levels).expect(rt, "memory");
+    mem::forget(levels);
     state
 }
 
-fn default_rules(rt: &impl Abort, alloc: Global) -> RuleSet {
-    let me = json(rt, alloc, r#"["@al:example.org"]"#);
-    defaults(alloc, &user_in(rt, alloc, &me, 0)).expect(rt, "memory")
+/// `Al Name` in that room, with the default rules.
+fn al_name(rt: &impl Abort, alloc: Global) -> Owner {
+    Owner {
+        user: al(rt, alloc),
+        name: text(rt, alloc, "Al Name"),
+        rules: default_rules(rt, alloc),
+        state: state(rt, alloc),
+    }
+}
+
+/// Puts the rule of a row: a kind, an id and a body.
+fn put(rt: &impl Abort, alloc: Global, rules: &mut RuleSet, row: &Json) {
+    let kind = kind_of(str_in(rt, row, 0));
+    let id = text_in(rt, alloc, row, 1);
+    let put = rules.put(alloc, kind, &id, at(rt, row, 2), None, None);
+    put.expect(rt, "a rule");
+}
+
+fn put_all(rt: &impl Abort, alloc: Global, rules: &mut RuleSet, rows: &str) {
+    let rows = json(rt, alloc, rows);
+    for row in list(rt, &rows) {
+        put(rt, alloc, rules, row);
+    }
+}
+
+/// Whether the rules say of the event of each row what the row says.
+fn all_said(rt: &impl Abort, alloc: Global, owner: &Owner, rows: &str) -> bool {
+    let rows = json(rt, alloc, rows);
+    let mut right = true;
+    for row in list(rt, &rows) {
+        if !is_said(rt, alloc, owner, row) {
+            right = false;
+        }
+    }
+    right
+}
+
+/// Whether the default rules with those of `puts` say of each event of `rows` what its row says.
+fn are_said(rt: &impl Abort, alloc: Global, puts: &str, rows: &str) -> bool {
+    let mut owner = al_name(rt, alloc);
+    put_all(rt, alloc, &mut owner.rules, puts);
+    let right = all_said(rt, alloc, &owner, rows);
+    mem::forget(owner);
+    right
 }
 
 #[test]
 fn each_default_rule_has_its_event(rt: HostRuntime) {
-    let rows = json(
-        &rt,
-        rt.alloc(),
-        r#"[
+    let rows = r#"[
         ["m.room.message", null, "@al:example.org", {"body":"hello"}, 3, ""],
         ["m.room.message", null, "@bo:example.org", {"body":"al","msgtype":"m.notice"}, 3, ""],
         ["m.room.member", "@al:example.org", "@bo:example.org", {"membership":"invite"}, 1, "notify"],
@@ -105,45 +153,8 @@ fn each_default_rule_has_its_event(rt: HostRuntime) {
         ["m.call.invite", null, "@bo:example.org", {}, 3, "notify"],
         ["m.room.message", null, "@bo:example.org", {}, 2, "notify"],
         ["m.room.topic", "", "@bo:example.org", {}, 2, ""]
-    ]"#,
-    );
-    let state = state(&rt, rt.alloc());
-    let rules = default_rules(&rt, rt.alloc());
-    for row in list(&rt, &rows) {
-        assert!(&rt; is_said(&rt, rt.alloc(), &rules, &state, row));
-    }
-}
-
-/// Puts the rules of rows: a kind, an id and a body.
-fn put_all(rt: &impl Abort, alloc: Global, rules: &mut RuleSet, rows: &Json) {
-    for row in list(rt, rows) {
-        let kind = match str_in(rt, row, 0) {
-            "override" => Kind::Override,
-            "content" => Kind::Content,
-            "room" => Kind::Room,
-            "sender" => Kind::Sender,
-            _ => Kind::Underride,
-        };
-        let id = text_in(rt, alloc, row, 1);
-        let put = rules.put(alloc, kind, &id, at(rt, row, 2), None, None);
-        put.expect(rt, "a rule");
-    }
-}
-
-/// Whether the default rules with those of `puts` say of each event of `rows` what its row says.
-fn are_said(rt: &impl Abort, alloc: Global, puts: &str, rows: &str) -> bool {
-    let puts = json(rt, alloc, puts);
-    let rows = json(rt, alloc, rows);
-    let state = state(rt, alloc);
-    let mut rules = default_rules(rt, alloc);
-    put_all(rt, alloc, &mut rules, &puts);
-    let mut right = true;
-    for row in list(rt, &rows) {
-        if !is_said(rt, alloc, &rules, &state, row) {
-            right = false;
-        }
-    }
-    right
+    ]"#;
+    assert!(&rt; are_said(&rt, rt.alloc(), "[]", rows));
 }
 
 #[test]
