@@ -127,14 +127,21 @@ fn a_large_body_takes_several_puts(rt: HostRuntime) {
     assert!(rt; cut < 5247);
 }
 
+/// Puts a name and a value as a line.
+fn put_pair(rt: &impl Abort, out: &mut Text, name: &str, value: &str) {
+    out.push_str(name).expect(rt, "memory");
+    out.push_str("=").expect(rt, "memory");
+    out.push_str(value).expect(rt, "memory");
+    out.push_str("\n").expect(rt, "memory");
+}
+
 /// The names and values of a target's query, a line for each.
 fn pairs(rt: &impl Abort, alloc: Global, target: &str) -> Text {
     let target = text(rt, alloc, target);
+    let found = query(alloc, &target).expect(rt, "memory");
     let mut out = Text::new(alloc);
-    for (name, value) in query(alloc, &target).expect(rt, "memory").as_slice() {
-        for part in [name.as_str(), "=", value.as_str(), "\n"] {
-            out.push_str(part).expect(rt, "memory");
-        }
+    for pair in found.as_slice() {
+        put_pair(rt, &mut out, pair.0.as_str(), pair.1.as_str());
     }
     out
 }

@@ -5,9 +5,10 @@ ghost use Rattle.mx_lanes.specs.Held.{spare_of};
 
 use mx_ids::{Memory, Seq};
 use mx_lanes::{
-    Book, book_stands_for_one_history, book_stands_still, book_stands_with_one_store_more,
+    Book, Parts, book_stands_for_one_history, book_stands_still, book_stands_with_one_store_more,
 };
 use std::alloc::Global;
+use std::process::Abort;
 
 fn one(alloc: Global, item: u64) -> Result<Seq<u64>, Memory>
     ensures { IfOk result (λ items. items ≡ item ∷ []) }
@@ -31,28 +32,46 @@ fn three_lanes(alloc: Global) -> Result<Book<u64>, Memory>
     Ok(book)
 }
 
-#[test]
-fn stores_out_of_order_move_the_front(rt: HostRuntime) {
-    let alloc = rt.alloc();
-    let mut book = three_lanes(alloc).expect(&rt, "memory");
-    let third = one(alloc, 30).expect(&rt, "memory");
-    let first = one(alloc, 10).expect(&rt, "memory");
-    let second = one(alloc, 20).expect(&rt, "memory");
+/// Stores the items 30, 10 and 20 at the positions 3, 1 and 2, and answers the parts up to the first front that isn't 0.
+fn filled(rt: &impl Abort, alloc: Global, book: &mut Book<u64>) -> Parts<u64>
+    requires history { book.old.history ≡ [] }
+    requires lanes { length book.old.spare ≡ 3 }
+    requires first { 1 ≤ spare_of book.old 0 }
+    requires second { 1 ≤ spare_of book.old 1 }
+    requires third { 1 ≤ spare_of book.old 2 }
+    ensures { 3 ≤ book.new.front }
+{
+    let third = one(alloc, 30).expect(rt, "memory");
+    let first = one(alloc, 10).expect(rt, "memory");
+    let second = one(alloc, 20).expect(rt, "memory");
     book.store(2, 3, third);
     assert_eq!(rt; book.front(), 0);
     book.store(0, 1, first);
     assert_eq!(rt; book.front(), 1);
-    let parts = book.up_to(alloc, 1).expect(&rt, "memory");
+    let parts = book.up_to(alloc, 1).expect(rt, "memory");
     book.store(1, 2, second);
     assert_eq!(rt; book.front(), 3);
+    parts
+}
+
+/// Whether parts are the first item alone, of two stores.
+fn are_first(parts: &Parts<u64>) -> bool {
+    parts.front() == 1
+        && parts.stores() == 2
+        && parts.at(0).is_none()
+        && parts.at(1).copied() == Some(10)
+        && parts.at(2).is_none()
+}
+
+#[test]
+fn stores_out_of_order_move_the_front(rt: HostRuntime) {
+    let alloc = rt.alloc();
+    let mut book = three_lanes(alloc).expect(&rt, "memory");
+    let parts = filled(&rt, alloc, &mut book);
+    assert!(rt; are_first(&parts));
     assert_eq!(rt; book.stores(), 3);
     let all = book.up_to(alloc, 3).expect(&rt, "memory");
     assert_eq!(rt; all.at(3).copied(), Some(30));
-    assert_eq!(rt; parts.front(), 1);
-    assert_eq!(rt; parts.stores(), 2);
-    assert_eq!(rt; parts.at(0).copied(), None);
-    assert_eq!(rt; parts.at(1).copied(), Some(10));
-    assert_eq!(rt; parts.at(2).copied(), None);
 }
 
 #[test]

@@ -119,28 +119,35 @@ fn nesting_ends_at_127(rt: HostRuntime) {
     assert!(rt; !is_nesting_read(&rt, rt.alloc(), 128));
 }
 
-/// A copy of an object with one member.
-fn copy_of_one(rt: &impl Abort, alloc: Global, key: &str, s: &str) -> Json {
+/// An object with one member.
+fn one_member(rt: &impl Abort, alloc: Global, key: &str, s: &str) -> Members<Json> {
     let mut members = Members::new(alloc);
     let value = Json::Text(text(rt, alloc, s));
     members
         .push(text(rt, alloc, key), value)
         .expect(rt, "memory");
-    let copy = members.copy(alloc).expect(rt, "memory");
-    Json::Object(copy).copy(alloc).expect(rt, "memory")
+    members
+}
+
+/// A copy of an object that has a copy of these members.
+fn copied(rt: &impl Abort, alloc: Global, members: &Members<Json>) -> Json {
+    let object = Json::Object(members.copy(alloc).expect(rt, "memory"));
+    object.copy(alloc).expect(rt, "memory")
+}
+
+/// Whether an object has a body, which is a text, and no other member.
+fn has_body(object: &Members<Json>) -> bool {
+    let Some(body) = object.get("body") else {
+        return false;
+    };
+    object.len() == 1 && body.as_text().is_some() && object.get("msgtype").is_none()
 }
 
 #[test]
 fn a_value_is_built_and_copied(rt: HostRuntime) {
-    let copy = copy_of_one(&rt, rt.alloc(), "body", "hi");
-    let members = copy.as_object().expect(&rt, "an object");
-    assert_eq!(rt; members.len(), 1);
-    assert!(rt;
-        members
-            .get("body")
-            .is_some_and(|body| body.as_text().is_some())
-    );
-    assert!(rt; members.get("msgtype").is_none());
+    let members = one_member(&rt, rt.alloc(), "body", "hi");
+    let copy = copied(&rt, rt.alloc(), &members);
+    assert!(rt; has_body(copy.as_object().expect(&rt, "an object")));
     expect_written(&rt, rt.alloc(), &copy, r#"{"body":"hi"}"#);
 }
 

@@ -1,77 +1,93 @@
 //! Three writers below the limit 4, and the laws at a concrete type.
 
-ghost use Rattle.std.specs.Prelude.{◌≡◌, [], ◌∷◌, IfOk};
-ghost use Rattle.mx_core.specs.declared.machine.Step.TheVariants.{Draw, Store};
+ghost use Rattle.std.specs.Prelude.{◌≡◌, ◌<◌, length};
 
 use mx_core::{
     Machine, Moved, Placed, Step, StepFault, front_covers_no_unfinished_write, front_never_falls,
 };
-use mx_ids::{Memory, Seq};
+use mx_ids::Seq;
 use std::alloc::Global;
+use std::process::Abort;
 
-fn draw(writer: u8) -> Step<u64>
-    ensures { result ≡ Draw writer 1 }
+/// Asserts what a writer's draw of so many positions answers.
+fn expect_draw(
+    rt: &impl Abort,
+    machine: &mut Machine<u64>,
+    writer: u8,
+    count: u16,
+    wanted: Result<Moved, StepFault>,
+)
+    requires writer { writer < length machine.old.held }
+    requires count { 0 < count }
+    ensures { length machine.new.held ≡ length machine.old.held }
 {
-    Step::Draw { writer, count: 1 }
+    assert_eq!(rt; machine.apply(Step::Draw { writer, count }), wanted);
 }
 
-fn store(alloc: Global, writer: u8, item: u64) -> Result<Step<u64>, Memory>
-    ensures { IfOk result (λ step. step ≡ Store writer (item ∷ [])) }
+/// Asserts what a writer's store of one item answers.
+fn expect_store(
+    rt: &impl Abort,
+    alloc: Global,
+    machine: &mut Machine<u64>,
+    writer: u8,
+    item: u64,
+    wanted: Result<Moved, StepFault>,
+)
+    requires { writer < length machine.old.held }
+    ensures { length machine.new.held ≡ length machine.old.held }
 {
     let mut items = Seq::new(alloc);
-    items.push(item)?;
-    Ok(Step::Store { writer, items })
+    items.push(item).expect(rt, "memory");
+    assert_eq!(rt; machine.apply(Step::Store { writer, items }), wanted);
+}
+
+/// Each of three writers draws a position, and one of them asks for a second.
+fn expect_draws(rt: &impl Abort, machine: &mut Machine<u64>)
+    requires { length machine.old.held ≡ 3 }
+    ensures { length machine.new.held ≡ 3 }
+{
+    expect_draw(rt, machine, 0, 1, Ok(Moved::Drawn { first: 1, count: 1 }));
+    expect_draw(rt, machine, 1, 1, Ok(Moved::Drawn { first: 2, count: 1 }));
+    expect_draw(rt, machine, 2, 1, Ok(Moved::Drawn { first: 3, count: 1 }));
+    expect_draw(rt, machine, 2, 1, Err(StepFault::AlreadyDrawn(3)));
+}
+
+/// The three writers store, the last one first.
+fn expect_stores(rt: &impl Abort, alloc: Global, machine: &mut Machine<u64>)
+    requires { length machine.old.held ≡ 3 }
+{
+    expect_store(rt, alloc, machine, 2, 30, Ok(Moved::Stored { front: 0 }));
+    expect_draw(rt, machine, 2, 1, Err(StepFault::AtLimit(3)));
+    expect_store(rt, alloc, machine, 0, 10, Ok(Moved::Stored { front: 1 }));
+    expect_store(rt, alloc, machine, 1, 20, Ok(Moved::Stored { front: 3 }));
+    expect_store(rt, alloc, machine, 2, 31, Err(StepFault::NothingDrawn));
 }
 
 #[test]
 fn stores_out_of_order_move_the_front(rt: HostRuntime) {
     let mut machine = Machine::new(rt.alloc(), 3, 4).expect(&rt, "memory");
-    assert_eq!(rt;
-        machine.apply(draw(0)),
-        Ok(Moved::Drawn { first: 1, count: 1 })
-    );
-    assert_eq!(rt;
-        machine.apply(draw(1)),
-        Ok(Moved::Drawn { first: 2, count: 1 })
-    );
-    assert_eq!(rt;
-        machine.apply(draw(2)),
-        Ok(Moved::Drawn { first: 3, count: 1 })
-    );
-    assert_eq!(rt; machine.apply(draw(2)), Err(StepFault::AlreadyDrawn(3)));
-    assert_eq!(rt;
-        machine.apply(store(rt.alloc(), 2, 30).expect(&rt, "memory")),
-        Ok(Moved::Stored { front: 0 })
-    );
-    assert_eq!(rt; machine.apply(draw(2)), Err(StepFault::AtLimit(3)));
-    assert_eq!(rt;
-        machine.apply(store(rt.alloc(), 0, 10).expect(&rt, "memory")),
-        Ok(Moved::Stored { front: 1 })
-    );
-    assert_eq!(rt;
-        machine.apply(store(rt.alloc(), 1, 20).expect(&rt, "memory")),
-        Ok(Moved::Stored { front: 3 })
-    );
-    assert_eq!(rt;
-        machine.apply(store(rt.alloc(), 2, 31).expect(&rt, "memory")),
-        Err(StepFault::NothingDrawn)
-    );
+    expect_draws(&rt, &mut machine);
+    expect_stores(&rt, rt.alloc(), &mut machine);
     assert_eq!(rt; machine.front(), 3);
 }
 
 #[test]
 fn a_store_has_as_many_items_as_were_drawn(rt: HostRuntime) {
     let mut machine = Machine::new(rt.alloc(), 1, 9).expect(&rt, "memory");
-    assert_eq!(rt;
-        machine.apply(Step::Draw {
-            writer: 0,
-            count: 2
-        }),
-        Ok(Moved::Drawn { first: 1, count: 2 })
+    expect_draw(
+        &rt,
+        &mut machine,
+        0,
+        2,
+        Ok(Moved::Drawn { first: 1, count: 2 }),
     );
-    assert_eq!(rt;
-        machine.apply(store(rt.alloc(), 0, 10).expect(&rt, "memory")),
-        Err(StepFault::WrongCount { drawn: 2, given: 1 })
+    expect_store(
+        &rt,
+        rt.alloc(),
+        &mut machine,
+        0,
+        10,
+        Err(StepFault::WrongCount { drawn: 2, given: 1 }),
     );
 }
 

@@ -5,6 +5,7 @@ use mx_outside::{
 };
 use std::alloc::{AllocError, Global};
 use std::fs;
+use std::process::Abort;
 use std::test::Fail;
 
 /// One call of a source with room for four bytes, whose bytes go to the end of `to`.
@@ -21,13 +22,22 @@ fn send<K: Sink>(sink: &mut K, bytes: &[u8]) -> Put {
     sink.put(bytes)
 }
 
-fn fetch<F: Files>(
+/// Asserts what the next calls of a source give.
+fn expect_pulls(rt: &impl Abort, source: &mut impl Source, to: &mut Vec<u8>, wanted: &[Took]) {
+    for want in wanted {
+        let took = pull(source, to).expect(rt, "memory");
+        assert_eq!(rt; took, *want);
+    }
+}
+
+/// The length of a file that is read, or why it isn't.
+fn length_of<F: Files>(
     files: &mut F,
     alloc: Global,
     name: &str,
     most: usize,
-) -> Result<Vec<u8>, FileFault> {
-    files.read(alloc, name, most)
+) -> Result<usize, FileFault> {
+    Ok(files.read(alloc, name, most)?.len())
 }
 
 #[test]
@@ -44,9 +54,7 @@ fn a_memory_source_gives_pieces_and_fails_where_listed(rt: HostRuntime) -> Resul
         Took::End,
         Took::Failed,
     ];
-    for want in wanted {
-        assert_eq!(rt; pull(&mut source, &mut all)?, want);
-    }
+    expect_pulls(&rt, &mut source, &mut all, &wanted);
     assert_eq!(rt; all.as_slice(), b"abcdefgh".as_slice());
     Ok(())
 }
@@ -61,24 +69,33 @@ fn a_memory_sink_keeps_all_but_the_failing_calls(rt: HostRuntime) -> Result<(), 
     Ok(())
 }
 
+/// The file `users` of five bytes, of whose reads the fourth fails.
+fn one_file(alloc: Global) -> Result<MemFiles, AllocError> {
+    let file = MemFile {
+        name: String::from_str(alloc, "users")?,
+        bytes: Vec::from_slice(alloc, b"12345")?,
+    };
+    let files = Vec::from_array(alloc, [file])?;
+    Ok(MemFiles::new(files, Vec::from_slice(alloc, &[3u64])?))
+}
+
 #[test]
 fn memory_files_are_read_by_name_within_a_limit(rt: HostRuntime) -> Result<(), Fail> {
-    let file = MemFile {
-        name: String::from_str(rt.alloc(), "users")?,
-        bytes: Vec::from_slice(rt.alloc(), b"12345")?,
-    };
-    let files = Vec::from_array(rt.alloc(), [file])?;
-    let mut files = MemFiles::new(files, Vec::from_slice(rt.alloc(), &[3u64])?);
-    let rows = [
-        ("users", 5, Ok(5)),
-        ("users", 4, Err(FileFault::TooLong)),
-        ("other", 5, Err(FileFault::Failed)),
-        ("users", 5, Err(FileFault::Failed)),
-    ];
-    for (name, most, want) in rows {
-        let read = fetch(&mut files, rt.alloc(), name, most).map(|bytes| bytes.len());
-        assert_eq!(rt; read, want, "{name} within {most}");
-    }
+    let alloc = rt.alloc();
+    let mut files = one_file(alloc)?;
+    assert_eq!(rt; length_of(&mut files, alloc, "users", 5), Ok(5));
+    assert_eq!(rt;
+        length_of(&mut files, alloc, "users", 4),
+        Err(FileFault::TooLong)
+    );
+    assert_eq!(rt;
+        length_of(&mut files, alloc, "other", 5),
+        Err(FileFault::Failed)
+    );
+    assert_eq!(rt;
+        length_of(&mut files, alloc, "users", 5),
+        Err(FileFault::Failed)
+    );
     Ok(())
 }
 
@@ -87,36 +104,33 @@ fn host_files_are_read_by_name_within_a_limit(rt: HostRuntime) -> Result<(), Fai
     let name = "mx_outside_host_file";
     fs::write(&rt, name, "12345")?;
     let mut files = HostFiles::new(rt);
-    let exact = fetch(&mut files, rt.alloc(), name, 5).map(|bytes| bytes.len());
-    let short = fetch(&mut files, rt.alloc(), name, 4).map(|bytes| bytes.len());
+    let exact = length_of(&mut files, rt.alloc(), name, 5);
+    let short = length_of(&mut files, rt.alloc(), name, 4);
     fs::remove_file(&rt, name)?;
-    let gone = fetch(&mut files, rt.alloc(), name, 5).map(|bytes| bytes.len());
+    let gone = length_of(&mut files, rt.alloc(), name, 5);
     assert_eq!(rt; exact, Ok(5));
     assert_eq!(rt; short, Err(FileFault::TooLong));
     assert_eq!(rt; gone, Err(FileFault::Failed));
     Ok(())
 }
 
+/// Some bytes as they are when they were read by a reader of std and written by a writer of std.
+fn copied(rt: &impl Abort, alloc: Global, bytes: &[u8], wanted: &[Took]) -> Vec<u8> {
+    let mut all = Vec::new(alloc);
+    expect_pulls(rt, &mut Reading::new(bytes), &mut all, wanted);
+    let mut copy = Vec::new(alloc);
+    let put = send(&mut Writing::new(&mut copy), all.as_slice());
+    assert_eq!(rt; put, Put::Done);
+    copy
+}
+
 #[test]
-fn readers_and_writers_of_std_are_sources_and_sinks(rt: HostRuntime) -> Result<(), Fail> {
-    let mut all = Vec::new(rt.alloc());
-    let mut source = Reading::new(b"abcdef".as_slice());
-    for want in [Took::Got(4), Took::Got(2), Took::End] {
-        assert_eq!(rt; pull(&mut source, &mut all)?, want);
-    }
-    let mut copy = Vec::new(rt.alloc());
-    assert_eq!(rt;
-        send(&mut Writing::new(&mut copy), all.as_slice()),
-        Put::Done
-    );
+fn readers_and_writers_of_std_are_sources_and_sinks(rt: HostRuntime) {
+    let wanted = [Took::Got(4), Took::Got(2), Took::End];
+    let copy = copied(&rt, rt.alloc(), b"abcdef", &wanted);
     assert_eq!(rt; copy.as_slice(), b"abcdef".as_slice());
-    assert_eq!(rt;
-        send(&mut StdOut::new(rt.stdout()), b"to standard output\n"),
-        Put::Done
-    );
-    assert_eq!(rt;
-        send(&mut StdErr::new(rt.stderr()), b"to standard error\n"),
-        Put::Done
-    );
-    Ok(())
+    let to_output = send(&mut StdOut::new(rt.stdout()), b"to standard output\n");
+    assert_eq!(rt; to_output, Put::Done);
+    let to_error = send(&mut StdErr::new(rt.stderr()), b"to standard error\n");
+    assert_eq!(rt; to_error, Put::Done);
 }
