@@ -69,3 +69,8 @@ pub fn compact(rt: &impl Abort, alloc: Global, json: &Json) -> Text {
     json.write(alloc, &mut out).expect(rt, "memory");
     out
 }
+
+/// Asserts what is found in the case of a number.
+pub fn expect_number(rt: &impl Abort, found: i64, wanted: i64, case: u64) {
+    assert_eq!(rt; found, wanted, "case {case}");
+}

@@ -1,7 +1,7 @@
 //! What a user has read. Receipts and cases are JSON texts: a receipt is a list of its user, its room's number, 0 for
 //! `m.read` or 1 for `m.read.private`, and the position of its event.
 
-ghost use Rattle.std.specs.Prelude.{◌≡◌, ◌+◌, length, IfOk, OnOk};
+ghost use Rattle.std.specs.Prelude.{◌≡◌, ◌+◌, length, IfOk};
 ghost use Rattle.mx_receipt.specs.Receipts.{position_of, AreInPlace};
 
 use crate::make::{at, json, list, number_in, user_in};
@@ -49,20 +49,14 @@ fn receipt(rt: &impl Abort, alloc: Global, row: &Json, position: u64) -> Receipt
 }
 
 /// Puts the receipt of a row at the next position.
-fn add(
-    rt: &impl Abort,
-    alloc: Global,
-    receipts: &mut Seq<Receipt>,
-    row: &Json,
-    position: u64,
-) -> Result<(), Memory>
+fn add(rt: &impl Abort, alloc: Global, receipts: &mut Seq<Receipt>, row: &Json, position: u64)
     requires next { length receipts.old + 1 ≡ position }
     requires before { AreInPlace receipts.old }
-    ensures count { OnOk result (length receipts.new ≡ position) }
-    ensures after { OnOk result (AreInPlace receipts.new) }
+    ensures count { length receipts.new ≡ position }
+    ensures after { AreInPlace receipts.new }
 {
-    receipts.push(receipt(rt, alloc, row, position))?;
-    Ok(())
+    let pushed = receipts.push(receipt(rt, alloc, row, position));
+    pushed.expect(rt, "memory");
 }
 
 /// All receipts, at the positions from 1 on.
@@ -71,10 +65,10 @@ fn receipts(rt: &impl Abort, alloc: Global) -> Result<Parts<Receipt>, Memory>
 {
     let rows = json(rt, alloc, RECEIPTS);
     let mut receipts = Seq::new(alloc);
-    add(rt, alloc, &mut receipts, at(rt, &rows, 0), 1)?;
-    add(rt, alloc, &mut receipts, at(rt, &rows, 1), 2)?;
-    add(rt, alloc, &mut receipts, at(rt, &rows, 2), 3)?;
-    add(rt, alloc, &mut receipts, at(rt, &rows, 3), 4)?;
+    add(rt, alloc, &mut receipts, at(rt, &rows, 0), 1);
+    add(rt, alloc, &mut receipts, at(rt, &rows, 1), 2);
+    add(rt, alloc, &mut receipts, at(rt, &rows, 2), 3);
+    add(rt, alloc, &mut receipts, at(rt, &rows, 3), 4);
     Parts::of(alloc, receipts.as_slice(), 4)
 }
 
@@ -83,14 +77,9 @@ fn found(rt: &impl Abort, alloc: Global, receipts: &Parts<Receipt>, case: &Json)
     requires { AreInPlace receipts.now.items }
 {
     let user = user_in(rt, alloc, case, 0);
+    let room = room_in(rt, case);
     let up_to = number_in(rt, case, 3).unsigned_abs();
-    match standing(
-        receipts,
-        &room_in(rt, case),
-        &user,
-        kind_in(rt, case),
-        up_to,
-    ) {
+    match standing(receipts, &room, &user, kind_in(rt, case), up_to) {
         Some(receipt) => receipt.event.at,
         None => 0,
     }
@@ -105,6 +94,11 @@ fn furthest_of(rt: &impl Abort, alloc: Global, receipts: &Parts<Receipt>, case: 
     furthest(receipts, &room_in(rt, case), &user, up_to)
 }
 
+/// Asserts which position is found in the case of a number.
+fn expect_position(rt: &impl Abort, found: u64, wanted: u64, case: u64) {
+    assert_eq!(rt; found, wanted, "case {case}");
+}
+
 /// Each case is a user, room and kind, a position, the event of the standing receipt or 0, and the furthest event.
 fn expect_read(rt: &impl Abort, alloc: Global, receipts: &Parts<Receipt>, cases: &str)
     requires { AreInPlace receipts.now.items }
@@ -113,13 +107,9 @@ fn expect_read(rt: &impl Abort, alloc: Global, receipts: &Parts<Receipt>, cases:
     let mut number = 0u64;
     for case in list(rt, &cases) {
         let stands = number_in(rt, case, 4).unsigned_abs();
-        assert_eq!(rt; found(rt, alloc, receipts, case), stands, "case {number}");
+        expect_position(rt, found(rt, alloc, receipts, case), stands, number);
         let most = number_in(rt, case, 5).unsigned_abs();
-        assert_eq!(rt;
-            furthest_of(rt, alloc, receipts, case),
-            most,
-            "case {number}"
-        );
+        expect_position(rt, furthest_of(rt, alloc, receipts, case), most, number);
         number = number.saturating_add(1);
     }
 }
@@ -153,12 +143,10 @@ fn place_second<I: Placed>(item: &mut I) {
 }
 
 #[test]
-fn a_receipt_is_copied_and_placed(rt: HostRuntime) -> Result<(), Fail> {
-    let alloc = rt.alloc();
-    let rows = json(&rt, alloc, RECEIPTS);
-    let first = receipt(&rt, alloc, at(&rt, &rows, 2), 3);
-    let mut second = copy_of(alloc, &first)?;
+fn a_receipt_is_copied_and_placed(rt: HostRuntime) {
+    let rows = json(&rt, rt.alloc(), RECEIPTS);
+    let first = receipt(&rt, rt.alloc(), at(&rt, &rows, 2), 3);
+    let mut second = copy_of(rt.alloc(), &first).expect(&rt, "memory");
     place_second(&mut second);
     assert!(rt; second.kind == ReceiptKind::Private && second.event.at == 15 && second.at == 8);
-    Ok(())
 }

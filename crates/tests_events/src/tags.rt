@@ -1,23 +1,29 @@
 //! Tags that are set and taken out.
-use crate::make::{at, json, list, text_in};
+use crate::make::{at, compact, json, list, text_in};
 use mx_account::{tags_of, with_tag, without_tag};
 use mx_ids::{Copied, Text};
 use mx_json::Json;
 use std::alloc::Global;
 use std::process::Abort;
 
-/// The compact text of the tags after a call: the tag of the row is set to its body, or taken out where that is `null`.
-fn changed(rt: &impl Abort, alloc: Global, row: &Json) -> Text {
-    let tag = text_in(rt, alloc, row, 1);
+/// The tags after a call: the tag of the row is set to its body, or taken out where that is `null`.
+fn changed(rt: &impl Abort, alloc: Global, tag: &Text, row: &Json) -> Json {
     let old = Some(at(rt, row, 0));
-    let body = at(rt, row, 2);
-    let content = match body {
-        Json::Null => without_tag(alloc, old, &tag).expect(rt, "memory"),
-        _ => with_tag(alloc, old, &tag, body.copy(alloc).expect(rt, "memory")).expect(rt, "memory"),
-    };
-    let mut text = Text::new(alloc);
-    content.write(alloc, &mut text).expect(rt, "memory");
-    text
+    match at(rt, row, 2) {
+        Json::Null => without_tag(alloc, old, tag).expect(rt, "memory"),
+        body => {
+            let body = body.copy(alloc).expect(rt, "memory");
+            with_tag(alloc, old, tag, body).expect(rt, "memory")
+        }
+    }
+}
+
+/// Asserts the compact text of the tags after the call of a row.
+fn expect_changed(rt: &impl Abort, alloc: Global, row: &Json) {
+    let tag = text_in(rt, alloc, row, 1);
+    let content = changed(rt, alloc, &tag, row);
+    let wanted = at(rt, row, 3).as_text().expect(rt, "a text");
+    assert!(rt; compact(rt, alloc, &content).as_str() == wanted.as_str());
 }
 
 #[test]
@@ -34,8 +40,7 @@ fn a_tag_is_set_and_taken_out(rt: HostRuntime) {
     ]"#,
     );
     for row in list(&rt, &rows) {
-        let text = changed(&rt, rt.alloc(), row);
-        assert!(&rt; text.as_str() == at(&rt, row, 3).as_text().expect(&rt, "a text").as_str());
+        expect_changed(&rt, rt.alloc(), row);
     }
     let with_no_tags = at(&rt, at(&rt, &rows, 3), 0);
     assert!(&rt; tags_of(Some(with_no_tags)).is_none());
