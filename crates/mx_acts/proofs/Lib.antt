@@ -1,2 +1,3 @@
+pub mod Arms
 mod ByFilter
 pub mod OfKind

@@ -1,7 +1,6 @@
 //! What a request asks of the streams: an answer that is read off what they cover, or a write of one of them.
 #![tactic(auto)]
 
-mod filters;
 mod kind;
 mod pages;
 mod reads;
@@ -10,7 +9,6 @@ mod sends;
 mod stores;
 mod syncs;
 
-pub use filters::filter_of;
 pub use kind::{ActKind, kind_of};
 pub use reads::{named, read};
 pub use sends::event_aim;

@@ -1,7 +1,8 @@
 //! What a request that reads is told.
 
 ghost use Rattle.std.specs.Prelude.{◌≡◌, ℕ, IfOk};
-ghost use Rattle.mx_acts.specs.Acts.{asked, Tells, whoami_said};
+ghost use Rattle.mx_acts.specs.Acts.{asked, kind_in, Tells, whoami_said};
+ghost use Rattle.mx_acts.specs.declared.kind.ActKind.TheVariants as kinds;
 ghost use Rattle.mx_aims.specs.Aims.{site_of};
 ghost use Rattle.mx_rest.specs.Servers.{AreValid, lists_of};
 
@@ -16,7 +17,7 @@ use mx_snapshot::Snapshot;
 use mx_user_reads::{push_rule, push_rules, rule_actions, rule_enabled, stored_filter};
 use std::alloc::Global;
 
-/// What a request that reads is told, on what the snapshot holds. A request that writes isn't asked here (`kind_of`): it is told `Memory`.
+/// What a request that reads is told, on what the snapshot holds.
 pub fn read(
     alloc: Global,
     site: &Site,
@@ -25,51 +26,12 @@ pub fn read(
     ask: &Ask,
 ) -> Result<Said, Memory>
     requires valid { AreValid (lists_of snapshot.now) }
-    ensures { (now : ℕ) → IfOk result (λ said. Tells (asked (site_of site.now) now who.now ask.now) (lists_of snapshot.now) said) }
-{
-    match ask {
-        Ask::WhoAmI => named(alloc, site, who),
-        Ask::Sync {
-            since,
-            filter,
-            full_state,
-            timeout: _,
-        } => sync_said(alloc, snapshot, &who.user, *since, filter, *full_state),
-        Ask::Messages {
-            room,
-            backward,
-            from,
-            to,
-            limit,
-            filter,
-        } => page_said(
-            alloc,
-            snapshot,
-            &who.user,
-            site.room_of(room),
-            *backward,
-            *from,
-            *to,
-            *limit,
-            filter,
-        ),
-        other => read_room(alloc, site, snapshot, who, other),
-    }
-}
-
-/// The same of a request that reads rooms, or the user's own data.
-fn read_room(
-    alloc: Global,
-    site: &Site,
-    snapshot: &Snapshot,
-    who: &Who,
-    ask: &Ask,
-) -> Result<Said, Memory>
-    requires valid { AreValid (lists_of snapshot.now) }
+    requires kind { (now : ℕ) → kind_in (asked (site_of site.now) now who.now ask.now) ≡ kinds.Reads }
     ensures { (now : ℕ) → IfOk result (λ said. Tells (asked (site_of site.now) now who.now ask.now) (lists_of snapshot.now) said) }
 {
     let user = &who.user;
     match ask {
+        Ask::WhoAmI => named(alloc, site, who),
         Ask::JoinedRooms => joined_rooms(alloc, snapshot, user),
         Ask::GetState { room, kind, key } => value(alloc, site, snapshot, user, room, kind, key),
         Ask::AllState { room } => state(alloc, site, snapshot, user, room),
@@ -87,48 +49,38 @@ fn read_room(
             not_membership,
         ),
         Ask::OneEvent { room, event: id } => event(alloc, site, snapshot, user, room, id),
-        other => read_own(alloc, site, snapshot, who, other),
-    }
-}
-
-/// The same of a request that reads the user's own data.
-fn read_own(
-    alloc: Global,
-    site: &Site,
-    snapshot: &Snapshot,
-    who: &Who,
-    ask: &Ask,
-) -> Result<Said, Memory>
-    requires valid { AreValid (lists_of snapshot.now) }
-    ensures { (now : ℕ) → IfOk result (λ said. Tells (asked (site_of site.now) now who.now ask.now) (lists_of snapshot.now) said) }
-{
-    let user = &who.user;
-    match ask {
+        Ask::Messages {
+            room,
+            backward,
+            from,
+            to,
+            limit,
+            filter,
+        } => page_said(
+            alloc,
+            snapshot,
+            user,
+            site.room_of(room),
+            *backward,
+            *from,
+            *to,
+            *limit,
+            filter,
+        ),
+        Ask::Sync {
+            since,
+            filter,
+            full_state,
+            timeout: _,
+        } => sync_said(alloc, snapshot, user, *since, filter, *full_state),
         Ask::GetFilter { id } => stored_filter(alloc, snapshot, user, id),
         Ask::GetAccount { room, kind } => account(alloc, site, snapshot, who, room, kind),
         Ask::Tags { room } => tags(alloc, site, snapshot, user, room),
-        other => read_rules(alloc, site, snapshot, who, other),
-    }
-}
-
-/// The same of a request that reads push rules.
-fn read_rules(
-    alloc: Global,
-    site: &Site,
-    snapshot: &Snapshot,
-    who: &Who,
-    ask: &Ask,
-) -> Result<Said, Memory>
-    requires valid { AreValid (lists_of snapshot.now) }
-    ensures { (now : ℕ) → IfOk result (λ said. Tells (asked (site_of site.now) now who.now ask.now) (lists_of snapshot.now) said) }
-{
-    let user = &who.user;
-    match ask {
         Ask::PushRules { inner } => push_rules(alloc, snapshot, user, *inner),
         Ask::GetRule { kind, id } => push_rule(alloc, snapshot, user, *kind, id),
         Ask::GetEnabled { kind, id } => rule_enabled(alloc, snapshot, user, *kind, id),
         Ask::GetActions { kind, id } => rule_actions(alloc, snapshot, user, *kind, id),
-        _ => Err(Memory),
+        _ => unreachable!(),
     }
 }
 

@@ -1,8 +1,8 @@
 //! Writes of account data and of receipts.
 
-ghost use Rattle.std.specs.Prelude.{ℕ, List, IfOk};
-ghost use Rattle.mx_event.specs.declared.event.Event.{Event};
-ghost use Rattle.mx_acts.specs.Acts.{asked, MarksBy, NotesBy, PutsBy};
+ghost use Rattle.std.specs.Prelude.{◌≡◌, ℕ, IfOk};
+ghost use Rattle.mx_acts.specs.Acts.{asked, kind_in, MarksBy, NotesBy, PutsBy};
+ghost use Rattle.mx_acts.specs.declared.kind.ActKind.TheVariants as kinds;
 ghost use Rattle.mx_aims.specs.Aims.{IsEntryWithin, IsNoteWithin, IsReceiptWithin, entry_aimed_of, note_aimed_of, receipt_aimed_of, site_of};
 ghost use Rattle.mx_rest.specs.Servers.{AreValid, lists_of};
 
@@ -13,8 +13,7 @@ use mx_ids::Memory;
 use mx_snapshot::Snapshot;
 use std::alloc::Global;
 
-/// What a request for a write of account data asks of a writer, by the events that the snapshot holds. Another one isn't asked here (`kind_of`): of it is
-/// told `Memory`.
+/// What a request for a write of account data asks of a writer, by the events that the snapshot holds.
 pub fn entry_aim(
     alloc: Global,
     site: &Site,
@@ -23,6 +22,7 @@ pub fn entry_aim(
     ask: Ask,
 ) -> Result<EntryAim, Memory>
     requires valid { AreValid (lists_of snapshot.now) }
+    requires kind { (now : ℕ) → kind_in (asked (site_of site.now) now who.now ask) ≡ kinds.Puts }
     ensures aimed { (now : ℕ) → IfOk result (λ a. PutsBy (asked (site_of site.now) now who.now ask) snapshot.now.events (entry_aimed_of a)) }
     ensures within { IfOk result (IsEntryWithin site.now.workers) }
 {
@@ -36,18 +36,8 @@ pub fn entry_aim(
         Ask::DeleteTag { room, tag } => site.untag_aim(alloc, snapshot, who, &room, tag),
         Ask::Receipt { room, kind, event } => match kind {
             None => site.marker_aim(alloc, snapshot, who, &room, event),
-            Some(_) => Err(Memory),
+            Some(_) => unreachable!(),
         },
-        other => rule_aim(alloc, site, who, other),
-    }
-}
-
-/// The same of a request that changes push rules, whatever the events are.
-fn rule_aim(alloc: Global, site: &Site, who: &Who, ask: Ask) -> Result<EntryAim, Memory>
-    ensures aimed { (now : ℕ) (events : List Event) → IfOk result (λ a. PutsBy (asked (site_of site.now) now who.now ask) events (entry_aimed_of a)) }
-    ensures within { IfOk result (IsEntryWithin site.now.workers) }
-{
-    match ask {
         Ask::PutRule {
             kind,
             id,
@@ -73,10 +63,7 @@ fn rule_aim(alloc: Global, site: &Site, who: &Who, ask: Ask) -> Result<EntryAim,
         Ask::PutActions { kind, id, body } => {
             site.rules_aim(alloc, who, RuleChange::Act { kind, id, body })
         }
-        other => {
-            drop(other);
-            Err(Memory)
-        }
+        _ => unreachable!(),
     }
 }
 
@@ -90,6 +77,7 @@ pub fn receipt_aim(
     ask: &Ask,
 ) -> Result<ReceiptAim, Memory>
     requires valid { AreValid (lists_of snapshot.now) }
+    requires kind { kind_in (asked (site_of site.now) now who.now ask.now) ≡ kinds.Marks }
     ensures aimed { IfOk result (λ a. MarksBy (asked (site_of site.now) now who.now ask.now) snapshot.now.events (receipt_aimed_of a)) }
     ensures within { IfOk result (IsReceiptWithin site.now.workers) }
 {
@@ -105,7 +93,7 @@ pub fn receipt_aim(
             read,
             private,
         } => site.receipts_aim(alloc, snapshot, now, who, room, read, private),
-        _ => Err(Memory),
+        _ => unreachable!(),
     }
 }
 
@@ -119,6 +107,7 @@ pub fn note_aim(
     ask: Ask,
 ) -> Result<NoteAim, Memory>
     requires valid { AreValid (lists_of snapshot.now) }
+    requires kind { kind_in (asked (site_of site.now) now who.now ask) ≡ kinds.Notes }
     ensures aimed { IfOk result (λ a. NotesBy (asked (site_of site.now) now who.now ask) snapshot.now.events (note_aimed_of a)) }
     ensures within { IfOk result (IsNoteWithin site.now.workers) }
 {
@@ -132,11 +121,8 @@ pub fn note_aim(
             Some(event) => {
                 site.note_aim(alloc, snapshot, now, who, &room, event, &read, &private)
             }
-            None => Err(Memory),
+            None => unreachable!(),
         },
-        other => {
-            drop(other);
-            Err(Memory)
-        }
+        _ => unreachable!(),
     }
 }
