@@ -113,13 +113,21 @@ fn whole(
 ) -> Option<RuleSet>
     ensures { option_map rules_of result ≡ whole (option_map (λ m. m.entries) override_rules) (option_map (λ m. m.entries) content) (option_map (λ m. m.entries) room) (option_map (λ m. m.entries) sender) (option_map (λ m. m.entries) underride) }
 {
-    Some(RuleSet {
-        override_rules: override_rules?,
-        content: content?,
-        room: room?,
-        sender: sender?,
-        underride: underride?,
-    })
+    match override_rules
+        .zip(content)
+        .zip(room)
+        .zip(sender)
+        .zip(underride)
+    {
+        Some(((((override_rules, content), room), sender), underride)) => Some(RuleSet {
+            override_rules,
+            content,
+            room,
+            sender,
+            underride,
+        }),
+        None => None,
+    }
 }
 
 /// Puts a copy of the rule last.
