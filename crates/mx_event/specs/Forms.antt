@@ -28,9 +28,9 @@ redacts_of e = if is_redaction e then field (codes "redacts") e.content else Non
 abbrev pub room_of : List ℕ → Bool → Event → Option Json
 room_of server with_room e = if with_room then Some (json.Text (room_id_text server e.room)) else None
 
--- the members of an event, with its `unsigned` where that isn't empty
-abbrev pub event_members : List ℕ → Bool → List (Member Json) → Event → List (Member Json)
-event_members server with_room unsigned e =
+-- the members of an event, and some behind them
+abbrev pub event_with : List ℕ → Bool → List (Member Json) → Event → List (Member Json)
+event_with server with_room last e =
     member (codes "content") e.content
     ∷ member (codes "event_id") (json.Text (event_id_text server e.id))
     ∷ member (codes "origin_server_ts") (json.Int (pos (min e.ts largest)))
@@ -39,7 +39,12 @@ event_members server with_room unsigned e =
     ++ (member (codes "sender") (json.Text e.sender)
     ∷ (member_if (codes "state_key") (option_map json.Text e.state_key)
     ++ (member (codes "type") (json.Text e.kind)
-    ∷ member_if (codes "unsigned") (if length unsigned == 0 then None else Some (json.Object unsigned)))))))
+    ∷ last)))))
+
+-- the members of an event, with its `unsigned` where that isn't empty
+abbrev pub event_members : List ℕ → Bool → List (Member Json) → Event → List (Member Json)
+event_members server with_room unsigned e =
+    event_with server with_room (member_if (codes "unsigned") (if length unsigned == 0 then None else Some (json.Object unsigned))) e
 
 -- the event without `unsigned`
 abbrev pub bare_form : List ℕ → Bool → Event → Json

@@ -1,12 +1,14 @@
 //! An event as clients see it.
-ghost use Rattle.std.specs.Prelude.{◌≡◌, ◌++◌, ◌∷◌, [], true, ◌==◌, if◌then◌else◌, length, min, pos, IfOk, OnOk, List, ℕ, Some, None, option_and_then, option_map};
+ghost use Rattle.std.specs.Prelude.{◌≡◌, ◌++◌, ◌∷◌, [], true, ◌==◌, if◌then◌else◌, length, min, pos, IfOk, OnOk, List, ℕ, Some, None, codes, option_and_then, option_map};
 ghost use Rattle.std.specs.Ordering.{nat_cmp, is_lt};
 ghost use Rattle.std.specs.Cmp.Lexicographic.{slice_cmp};
 ghost use Rattle.mx_ids.specs.Ids.{event_id_text, room_id_text};
 ghost use Rattle.mx_json.specs.Keys.{are_ordered, keys_of};
 ghost use Rattle.mx_json.specs.Numbers.{largest};
+ghost use Rattle.mx_json.specs.declared.members.Member.{Member};
+ghost use Rattle.mx_json.specs.declared.value.Json.{Json};
 ghost use Rattle.mx_json.specs.declared.value.Json.TheVariants as json;
-ghost use Rattle.mx_event.specs.Forms.{bare_form, client_form, event_members, member, member_if, redacts_of, room_of, txn_for, unsigned_of};
+ghost use Rattle.mx_event.specs.Forms.{bare_form, client_form, event_members, event_with, member, member_if, redacts_of, room_of, txn_for, unsigned_of};
 
 use crate::event::{Event, Shown};
 use mx_ids::{Copied, Memory, Text, write_event_id, write_room_id};
@@ -90,36 +92,33 @@ fn event_form(
     ensures { IfOk result (λ j. j ≡ json.Object (event_members server.now with_room unsigned event.now)) }
 {
     let mut members = Members::new(alloc);
-    put(alloc, &mut members, "content", event.content.copy(alloc)?)?;
-    put(
-        alloc,
-        &mut members,
-        "event_id",
-        event_id(alloc, event, server)?,
-    )?;
-    put(alloc, &mut members, "origin_server_ts", timestamp(event.ts))?;
-    put_if(alloc, &mut members, "redacts", redacts(alloc, event)?)?;
-    put_if(
-        alloc,
-        &mut members,
-        "room_id",
-        room_id(alloc, event, with_room, server)?,
-    )?;
-    put(
-        alloc,
-        &mut members,
-        "sender",
-        Json::Text(event.sender.as_text().copy(alloc)?),
-    )?;
-    put_if(alloc, &mut members, "state_key", state_key(alloc, event)?)?;
-    put(
-        alloc,
-        &mut members,
-        "type",
-        Json::Text(event.kind.copy(alloc)?),
-    )?;
+    put_event(alloc, &mut members, event, with_room, server)?;
     put_if(alloc, &mut members, "unsigned", unless_empty(unsigned))?;
     Ok(Json::Object(members))
+}
+
+/// Puts the members of an event but `unsigned`, each key above those before it.
+fn put_event(
+    alloc: Global,
+    members: &mut Members<Json>,
+    event: &Event,
+    with_room: bool,
+    server: &str,
+) -> Result<(), Memory>
+    requires { are_ordered (keys_of members.old ++ codes "content" ∷ []) ≡ true }
+    ensures put { OnOk result ((last : List (Member Json)) → members.new ++ last ≡ members.old ++ event_with server.now with_room last event.now) }
+    ensures next { OnOk result ((k : List ℕ) → is_lt (slice_cmp nat_cmp (codes "type") k) ≡ true → are_ordered (keys_of members.new ++ k ∷ []) ≡ true) }
+{
+    put(alloc, members, "content", event.content.copy(alloc)?)?;
+    put(alloc, members, "event_id", event_id(alloc, event, server)?)?;
+    put(alloc, members, "origin_server_ts", timestamp(event.ts))?;
+    put_if(alloc, members, "redacts", redacts(alloc, event)?)?;
+    let room = room_id(alloc, event, with_room, server)?;
+    put_if(alloc, members, "room_id", room)?;
+    let sender = event.sender.as_text().copy(alloc)?;
+    put(alloc, members, "sender", Json::Text(sender))?;
+    put_if(alloc, members, "state_key", state_key(alloc, event)?)?;
+    put(alloc, members, "type", Json::Text(event.kind.copy(alloc)?))
 }
 
 fn event_id(alloc: Global, event: &Event, server: &str) -> Result<Json, Memory>
