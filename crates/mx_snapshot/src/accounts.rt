@@ -1,6 +1,6 @@
 //! The account data of a stream up to its front.
 
-ghost use Rattle.std.specs.Prelude.{◌≡◌, ◌≤◌, ◌<◌, ◌+◌, [], Some, None, length, take, IfOk, OnOk};
+ghost use Rattle.std.specs.Prelude.{◌≡◌, ◌≤◌, ◌<◌, ◌+◌, [], Some, None, length, take, IfOk, OnErr, OnOk};
 ghost use Rattle.std.specs.Option.{option_copied};
 ghost use Rattle.mx_core.specs.History.{Begins};
 ghost use Rattle.mx_window.specs.Lasts.{last_of};
@@ -56,18 +56,23 @@ impl Accounts {
         }
     }
 
-    /// Goes on to a later front: only the entries after the old one are looked at.
-    pub(crate) fn grown(self, alloc: Global, entries: Parts<Entry>) -> Result<Accounts, Memory>
-        requires begins { Begins self entries.items }
+    /// Goes on to a later front: only the entries after the old one are looked at. `Memory` leaves nothing.
+    pub(crate) fn grow(&mut self, alloc: Global, entries: Parts<Entry>) -> Result<(), Memory>
+        requires begins { Begins self.old entries.items }
         requires placed { AreInPlace entries.items }
-        ensures { IfOk result (λ s. s ≡ entries.items) }
+        ensures ok { OnOk result (self.new ≡ entries.items) }
+        ensures err { OnErr result (self.new ≡ []) }
     {
-        let Accounts {
-            entries: before,
-            mut index,
-        } = self;
-        index_after(alloc, &mut index, &entries, before.front())?;
-        Ok(Accounts { entries, index })
+        let front = self.entries.front();
+        let grown = index_after(alloc, &mut self.index, &entries, front);
+        if grown.is_ok() {
+            self.entries = entries;
+        } else {
+            drop(entries);
+            self.entries = Parts::none(alloc);
+            self.index = AccountIndex::new(alloc);
+        }
+        grown
     }
 
     /// The front: the number of entries, each of which stands at its own position. Takes no memory.

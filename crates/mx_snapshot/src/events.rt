@@ -1,6 +1,6 @@
 //! The events of a stream up to its front.
 
-ghost use Rattle.std.specs.Prelude.{◌*◌, ◌-◌, ◌^◌, ◌≡◌, ◌≤◌, ◌<◌, ◌+◌, [], option_map, ◌++◌, true, length, map, take, nat_le, IfOk, OnOk};
+ghost use Rattle.std.specs.Prelude.{◌*◌, ◌-◌, ◌^◌, ◌≡◌, ◌≤◌, ◌<◌, ◌+◌, [], option_map, ◌++◌, true, length, map, take, nat_le, IfOk, OnErr, OnOk};
 ghost use Rattle.std.specs.Option.{option_copied, option_to_list};
 ghost use Rattle.mx_core.specs.History.{Begins};
 ghost use Rattle.mx_window.specs.Lasts.{keep_if, last, last_of};
@@ -62,18 +62,23 @@ impl Events {
         }
     }
 
-    /// Goes on to a later front: only the events after the old one are looked at.
-    pub(crate) fn grown(self, alloc: Global, events: Parts<Event>) -> Result<Events, Memory>
-        requires begins { Begins self events.items }
+    /// Goes on to a later front: only the events after the old one are looked at. `Memory` leaves nothing.
+    pub(crate) fn grow(&mut self, alloc: Global, events: Parts<Event>) -> Result<(), Memory>
+        requires begins { Begins self.old events.items }
         requires placed { stand_from position_of 1 events.items ≡ true }
-        ensures { IfOk result (λ s. s ≡ events.items) }
+        ensures ok { OnOk result (self.new ≡ events.items) }
+        ensures err { OnErr result (self.new ≡ []) }
     {
-        let Events {
-            events: before,
-            mut index,
-        } = self;
-        index_after(alloc, &mut index, &events, before.front())?;
-        Ok(Events { events, index })
+        let front = self.events.front();
+        let grown = index_after(alloc, &mut self.index, &events, front);
+        if grown.is_ok() {
+            self.events = events;
+        } else {
+            drop(events);
+            self.events = Parts::none(alloc);
+            self.index = EventIndex::new(alloc);
+        }
+        grown
     }
 
     /// The front: the number of events, each of which stands at its own position. Takes no memory.

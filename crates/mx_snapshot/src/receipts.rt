@@ -1,6 +1,6 @@
 //! The receipts of a stream up to its front.
 
-ghost use Rattle.std.specs.Prelude.{◌≡◌, ◌≤◌, ◌<◌, ◌+◌, ◌++◌, [], ◌∷◌, List, true, length, take, IfOk, OnOk};
+ghost use Rattle.std.specs.Prelude.{◌≡◌, ◌≤◌, ◌<◌, ◌+◌, ◌++◌, [], ◌∷◌, List, true, length, take, IfOk, OnErr, OnOk};
 ghost use Rattle.std.specs.Option.{option_copied};
 ghost use Rattle.mx_core.specs.History.{Begins};
 ghost use Rattle.mx_window.specs.Windows.{between};
@@ -57,18 +57,23 @@ impl Receipts {
         }
     }
 
-    /// Goes on to a later front: only the receipts after the old one are looked at.
-    pub(crate) fn grown(self, alloc: Global, receipts: Parts<Receipt>) -> Result<Receipts, Memory>
-        requires begins { Begins self receipts.items }
+    /// Goes on to a later front: only the receipts after the old one are looked at. `Memory` leaves nothing.
+    pub(crate) fn grow(&mut self, alloc: Global, receipts: Parts<Receipt>) -> Result<(), Memory>
+        requires begins { Begins self.old receipts.items }
         requires placed { AreInPlace receipts.items }
-        ensures { IfOk result (λ s. s ≡ receipts.items) }
+        ensures ok { OnOk result (self.new ≡ receipts.items) }
+        ensures err { OnErr result (self.new ≡ []) }
     {
-        let Receipts {
-            receipts: before,
-            mut rooms,
-        } = self;
-        index_after(alloc, &mut rooms, &receipts, before.front())?;
-        Ok(Receipts { receipts, rooms })
+        let front = self.receipts.front();
+        let grown = index_after(alloc, &mut self.rooms, &receipts, front);
+        if grown.is_ok() {
+            self.receipts = receipts;
+        } else {
+            drop(receipts);
+            self.receipts = Parts::none(alloc);
+            self.rooms = BTreeMap::new(alloc);
+        }
+        grown
     }
 
     /// The front: the number of receipts, each of which stands at its own position. Takes no memory.

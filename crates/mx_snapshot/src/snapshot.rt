@@ -16,7 +16,6 @@ use mx_ids::Memory;
 use mx_lanes::Parts;
 use mx_receipt::Receipt;
 use std::alloc::Global;
-use std::mem;
 
 /// The events, receipts and account data of a server up to their fronts. A reader keeps one, and goes on to later fronts.
 #[derive(Drop)]
@@ -63,15 +62,32 @@ impl Snapshot {
         ensures accounts { OnOk result (self.new.accounts ≡ accounts.items) }
         ensures err { OnErr result ((self.new.events ≡ []) × (self.new.receipts ≡ []) × (self.new.accounts ≡ [])) }
     {
-        let old = mem::replace(self, Snapshot::new(alloc));
-        let events = old.events.grown(alloc, events)?;
-        let receipts = old.receipts.grown(alloc, receipts)?;
-        let accounts = old.accounts.grown(alloc, accounts)?;
-        *self = Snapshot {
-            events,
-            receipts,
-            accounts,
-        };
-        Ok(())
+        let grown = self.grow(alloc, events, receipts, accounts);
+        if grown.is_err() {
+            *self = Snapshot::new(alloc);
+        }
+        grown
+    }
+
+    fn grow(
+        &mut self,
+        alloc: Global,
+        events: Parts<Event>,
+        receipts: Parts<Receipt>,
+        accounts: Parts<Entry>,
+    ) -> Result<(), Memory>
+        requires events { Begins self.old.events events.items }
+        requires receipts { Begins self.old.receipts receipts.items }
+        requires accounts { Begins self.old.accounts accounts.items }
+        requires placed_events { stand_from position_of 1 events.items ≡ true }
+        requires placed_receipts { receipt.AreInPlace receipts.items }
+        requires placed_accounts { account.AreInPlace accounts.items }
+        ensures events { OnOk result (self.new.events ≡ events.items) }
+        ensures receipts { OnOk result (self.new.receipts ≡ receipts.items) }
+        ensures accounts { OnOk result (self.new.accounts ≡ accounts.items) }
+    {
+        self.events.grow(alloc, events)?;
+        self.receipts.grow(alloc, receipts)?;
+        self.accounts.grow(alloc, accounts)
     }
 }
