@@ -72,6 +72,9 @@ fn stores_out_of_order_move_the_front(rt: HostRuntime) {
     assert_eq!(rt; book.stores(), 3);
     let all = book.up_to(alloc, 3).expect(&rt, "memory");
     assert_eq!(rt; all.at(3).copied(), Some(30));
+    drop(all);
+    drop(parts);
+    drop(book);
 }
 
 #[test]

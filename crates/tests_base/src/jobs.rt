@@ -3,7 +3,6 @@ use mx_outside::{Job, Spawner, Started};
 use std::alloc::AllocError;
 use std::sync::Arc;
 use std::sync::atomic::{AtomicU64, Ordering};
-use std::test::Fail;
 use std::thread;
 
 /// A job that adds one to a count.
@@ -55,37 +54,41 @@ fn add_one(
 }
 
 #[test]
-fn jobs_in_the_caller_run_but_those_that_are_listed(rt: HostRuntime) -> Result<(), Fail> {
-    let mut spawner = Spawner::in_caller(Vec::from_slice(rt.alloc(), &[1u64])?);
-    let count = Arc::new(rt.alloc(), AtomicU64::new(0))?;
+fn jobs_in_the_caller_run_but_those_that_are_listed(rt: HostRuntime) {
+    let refused = Vec::from_slice(rt.alloc(), &[1u64]).expect(&rt, "memory");
+    let mut spawner = Spawner::in_caller(refused);
+    let count = Arc::new(rt.alloc(), AtomicU64::new(0)).expect(&rt, "memory");
     let rows = [
         (Started::Running, 1),
         (Started::Refused, 1),
         (Started::Running, 2),
     ];
     for (want, ran) in rows {
-        assert_eq!(rt; add_one(&rt, &mut spawner, &count)?, want);
+        let started = add_one(&rt, &mut spawner, &count).expect(&rt, "memory");
+        assert_eq!(rt; started, want);
         assert_eq!(rt; count.load(Ordering::SeqCst), ran);
         assert_eq!(rt; Arc::strong_count(&count), 1, "each job was dropped");
     }
     spawner.wait_all(&rt);
-    Ok(())
+    drop(count);
+    drop(spawner);
 }
 
 #[test]
-fn two_jobs_in_threads_run_at_once(rt: HostRuntime) -> Result<(), Fail> {
-    let mut spawner = Spawner::in_threads(rt.alloc())?;
+fn two_jobs_in_threads_run_at_once(rt: HostRuntime) {
+    let mut spawner = Spawner::in_threads(rt.alloc()).expect(&rt, "memory");
     let meeting = Meeting {
         came: AtomicU64::new(0),
         met: AtomicU64::new(0),
     };
-    let meeting = Arc::new(rt.alloc(), meeting)?;
+    let meeting = Arc::new(rt.alloc(), meeting).expect(&rt, "memory");
     for _ in 0..2u8 {
-        let meeting = Arc::try_clone(&meeting)?;
+        let meeting = Arc::try_clone(&meeting).expect(&rt, "memory");
         assert_eq!(rt; spawner.start(&rt, Meet { meeting }), Started::Running);
     }
     spawner.wait_all(&rt);
     assert_eq!(rt; meeting.met.load(Ordering::SeqCst), 2);
     assert_eq!(rt; Arc::strong_count(&meeting), 1, "each job was dropped");
-    Ok(())
+    drop(meeting);
+    drop(spawner);
 }

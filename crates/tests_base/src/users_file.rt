@@ -1,6 +1,7 @@
 //! The users file, and who is found.
-use crate::make::text;
+use crate::make::{json, list, text};
 use mx_ids::Text;
+use mx_json::Json;
 use mx_users::{Directory, UsersFault, read_users};
 use std::alloc::Global;
 use std::process::Abort;
@@ -14,18 +15,37 @@ fn line(alloc: Global, file: &str) -> u64 {
     }
 }
 
+/// Users files, each with the number of the line that it breaks in.
+const FILES: &str = r#"[
+    ["server x",0],
+    ["",1],
+    ["\n\n",1],
+    ["\n\nserver X\n",3],
+    ["\nalice A1 t\n",2],
+    ["server x\n\nalice  A1 t\n",3],
+    ["server x\nalice A1 t\r\nbob B1\n",2],
+    ["server x\nalice A1 t\nalice A1 u\n",3],
+    ["server x\nalice A1 t\nbob B1 t\n?\n",3]]"#;
+
+/// Whether a row has the line that its file breaks in.
+fn has_line(alloc: Global, row: &Json) -> bool {
+    match row.as_list() {
+        Some(row) => match row.as_slice() {
+            [Json::Text(file), Json::Int(number)] => i64::try_from(line(alloc, file.as_str()))
+                == Ok(*number),
+            _ => false,
+        },
+        None => false,
+    }
+}
+
 #[test]
 fn the_first_line_that_breaks_a_users_file_is_named(rt: HostRuntime) {
-    let alloc = rt.alloc();
-    assert_eq!(rt; line(alloc, "server x"), 0);
-    assert_eq!(rt; line(alloc, ""), 1);
-    assert_eq!(rt; line(alloc, "\n\n"), 1);
-    assert_eq!(rt; line(alloc, "\n\nserver X\n"), 3);
-    assert_eq!(rt; line(alloc, "\nalice A1 t\n"), 2);
-    assert_eq!(rt; line(alloc, "server x\n\nalice  A1 t\n"), 3);
-    assert_eq!(rt; line(alloc, "server x\nalice A1 t\r\nbob B1\n"), 2);
-    assert_eq!(rt; line(alloc, "server x\nalice A1 t\nalice A1 u\n"), 3);
-    assert_eq!(rt; line(alloc, "server x\nalice A1 t\nbob B1 t\n?\n"), 3);
+    let files = json(&rt, rt.alloc(), FILES);
+    for row in list(&rt, &files) {
+        assert!(rt; has_line(rt.alloc(), row));
+    }
+    drop(files);
 }
 
 /// Whether the caller with a token is this user with this device.
