@@ -51,21 +51,24 @@ fn draft(rt: &impl Abort, alloc: Global, row: &Json) -> Draft {
 
 /// The number of what becomes of a draft: 0 where it is ready, 1000 and the position where it was sent before, and else
 /// that of its fault, with 100 and the rule where it is denied.
-fn outcome(answer: Result<Admitted, RoomFault>) -> i64 {
+fn outcome(answer: &Result<Admitted, RoomFault>) -> i64 {
     match answer {
         Ok(Admitted::Ready(_)) => 0,
         Ok(Admitted::Repeat(id)) => i64::try_from(id.at).unwrap_or(0).saturating_add(1000),
         Err(RoomFault::NoRoom) => 1,
         Err(RoomFault::TooLarge) => 2,
         Err(RoomFault::NoTarget) => 3,
-        Err(RoomFault::Denied(rule)) => 100 + i64::from(rule),
+        Err(RoomFault::Denied(rule)) => 100 + i64::from(*rule),
         Err(RoomFault::Memory) => 4,
     }
 }
 
 /// What becomes of the draft of a case, which isn't stored.
 fn admitted(rt: &impl Abort, alloc: Global, rooms: &mut RoomBook, case: &Json) -> i64 {
-    outcome(rooms.admit(draft(rt, alloc, case)))
+    let answer = rooms.admit(draft(rt, alloc, case));
+    let code = outcome(&answer);
+    drop(answer);
+    code
 }
 
 /// What becomes of each of some drafts, none of which is stored.
