@@ -158,6 +158,8 @@ fn stores_out_of_order_move_the_front(rt: HostRuntime) {
     assert_eq!(rt; front_after(&rt, alloc, first, 10), 1);
     assert_eq!(rt; front_after(&rt, alloc, second, 20), 3);
     expect_items(&rt, alloc, &stream, &mut pass, 3, &[10, 20, 30]);
+    drop(pass);
+    drop(stream);
 }
 
 /// The last of three stores, the last position below the stop, and then a full stream.
@@ -177,11 +179,13 @@ fn expect_last_position<R: Wait + Abort>(rt: &R, alloc: Global, holder: Holder<'
 #[test]
 fn the_last_position_below_the_stop_is_drawn_and_then_none(rt: HostRuntime) {
     let alloc = rt.alloc();
-    let (stream, pens, _pass) = stream::<Number>(alloc, 3, 4).expect(&rt, "memory");
+    let (stream, pens, pass) = stream::<Number>(alloc, 3, 4).expect(&rt, "memory");
     let (first, second, third) = three_holding(&rt, &stream, pens);
     assert_eq!(rt; front_after(&rt, alloc, third, 30), 0);
     assert_eq!(rt; front_after(&rt, alloc, first, 10), 1);
     expect_last_position(&rt, alloc, second);
+    drop(pass);
+    drop(stream);
 }
 
 /// Draws and stores the one position of a stream, and then finds it full.
@@ -201,17 +205,23 @@ fn expect_one_position<R: Wait + Abort>(
 
 #[test]
 fn a_stream_without_positions_is_full(rt: HostRuntime) {
-    let (stream, pens, _pass) = stream::<Number>(rt.alloc(), 3, 0).expect(&rt, "memory");
+    let (stream, pens, pass) = stream::<Number>(rt.alloc(), 3, 0).expect(&rt, "memory");
     let mut first = first_pen(&stream, pens);
     assert_eq!(rt; draw_one(&rt, &stream, &mut first), Err(Full { next: 0 }));
+    drop(first);
+    drop(pass);
+    drop(stream);
 }
 
 #[test]
 fn a_stream_is_full_once_its_positions_are_drawn(rt: HostRuntime) {
     let alloc = rt.alloc();
-    let (stream, pens, _pass) = stream::<Number>(alloc, 3, 1).expect(&rt, "memory");
+    let (stream, pens, pass) = stream::<Number>(alloc, 3, 1).expect(&rt, "memory");
     let mut first = first_pen(&stream, pens);
     expect_one_position(&rt, alloc, &stream, &mut first);
+    drop(first);
+    drop(pass);
+    drop(stream);
 }
 
 /// The fronts that three stores in this order answer.
@@ -229,13 +239,16 @@ fn fronts<R: Wait + Abort>(
 
 /// The fronts where the pen of one writer stores after the two others.
 fn fronts_with_held<R: Wait + Abort>(rt: &R, alloc: Global, held: u8) -> (u64, u64, u64) {
-    let (stream, pens, _pass) = stream::<Number>(alloc, 3, 4).expect(rt, "memory");
+    let (stream, pens, pass) = stream::<Number>(alloc, 3, 4).expect(rt, "memory");
     let (first, second, third) = three_holding(rt, &stream, pens);
-    match held {
+    let found = match held {
         0 => fronts(rt, alloc, second, third, first),
         1 => fronts(rt, alloc, first, third, second),
         _ => fronts(rt, alloc, first, second, third),
-    }
+    };
+    drop(pass);
+    drop(stream);
+    found
 }
 
 #[test]
@@ -273,6 +286,9 @@ fn passes_meet_and_note(rt: HostRuntime) {
     store_noted(&rt, alloc, &stream, &mut first, &mut pass);
     stream.meet(&mut other, pass);
     expect_items(&rt, alloc, &stream, &mut other, 1, &[10]);
+    drop(other);
+    drop(first);
+    drop(stream);
 }
 
 /// A block of 256 numbers, from 0 on.
@@ -331,6 +347,11 @@ fn later_parts_share_the_segments_of_earlier_ones(rt: HostRuntime) {
         (value_at(&after, 1024), value_at(&after, 1025)),
         (Some(255), Some(0))
     );
+    drop(after);
+    drop(before);
+    drop(first);
+    drop(pass);
+    drop(stream);
 }
 
 /// Stores the second of three numbers, above what a look saw of the two others: the front moves, and what was seen stays.
@@ -354,6 +375,9 @@ fn a_look_covers_no_later_store(rt: HostRuntime) {
     assert_eq!(rt; front_after(&rt, alloc, first, 10), 1);
     let seen = stream.look(&rt, alloc, &mut pass).expect(&rt, "memory");
     expect_still_seen(&rt, alloc, &seen, second);
+    drop(seen);
+    drop(pass);
+    drop(stream);
 }
 
 /// A pen of a stream without a block.
@@ -399,7 +423,8 @@ fn expect_fifty_each<R: Threads + Wait + Abort + Sync>(
 )
     requires { AreNewPens (place_of stream.now) (writers_of stream.now) 3 pens }
 {
-    let (first, second, _third) = three(stream, pens);
+    let (first, second, third) = three(stream, pens);
+    drop(third);
     let one = Writer { stream, pen: first };
     let two = Writer {
         stream,
@@ -416,6 +441,9 @@ fn threads_store_side_by_side(rt: HostRuntime) {
     let parts = stream.look(&rt, alloc, &mut pass).expect(&rt, "memory");
     assert_eq!(rt; (parts.stores(), parts.front()), (100, 100));
     assert_eq!(rt; ends_of_runs(&parts, 0, 1024), (50, 1074));
+    drop(parts);
+    drop(pass);
+    drop(stream);
 }
 
 #[test]

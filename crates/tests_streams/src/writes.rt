@@ -21,24 +21,26 @@ use std::thread;
 use std::thread::Threads;
 
 /// The values of two writers.
-fn two_numbers(alloc: Global) -> Result<Seq<Numbers>, Memory>
-    ensures { IfOk result (λ all. AreFreshFolds (λ n. n.writer) (λ n. n.stores.items) 2 all) }
+fn two_numbers(rt: &impl Abort, alloc: Global) -> Seq<Numbers>
+    ensures { AreFreshFolds (λ n. n.writer) (λ n. n.stores.items) 2 result }
 {
+    let first = numbers(alloc, 0).expect(rt, "memory");
+    let second = numbers(alloc, 1).expect(rt, "memory");
     let mut all = Seq::new(alloc);
-    all.push(numbers(alloc, 0)?)?;
-    all.push(numbers(alloc, 1)?)?;
-    Ok(all)
+    all.push(first).expect(rt, "memory");
+    all.push(second).expect(rt, "memory");
+    all
 }
 
 /// Two writers of a stream with this stop, and a pass.
-fn two(alloc: Global, stop: u64) -> Result<(Writers<Numbers>, Pass<Number>), Memory>
+fn two(rt: &impl Abort, alloc: Global, stop: u64) -> (Writers<Numbers>, Pass<Number>)
     requires { stop ≤ 1000 }
-    ensures writers { IfOk result (λ r. writers_of r.0.stream ≡ 2) }
-    ensures pass { IfOk result (λ r. place_of_pass r.1 ≡ place_of r.0.stream) }
+    ensures writers { writers_of result.0.stream ≡ 2 }
+    ensures pass { place_of_pass result.1 ≡ place_of result.0.stream }
 {
-    let (stream, pens, pass) = stream(alloc, 2, stop)?;
-    let writers = writers(alloc, stream, pens, two_numbers(alloc)?)?;
-    Ok((writers, pass))
+    let (stream, pens, pass) = stream(alloc, 2, stop).expect(rt, "memory");
+    let writers = writers(alloc, stream, pens, two_numbers(rt, alloc)).expect(rt, "memory");
+    (writers, pass)
 }
 
 fn stored(first: u64, lane: u64, front: u64) -> Result<Written, Refused<Zero>> {
@@ -101,6 +103,9 @@ fn a_writer_decides_on_its_own_stores(rt: HostRuntime) {
     let mut first = first_shard(alloc, &stream, pens).expect(&rt, "memory");
     expect_own_stores(&rt, alloc, &stream, &mut first);
     expect_items(&rt, alloc, &stream, &mut pass, 2, &[5, 7]);
+    drop(first);
+    drop(pass);
+    drop(stream);
 }
 
 fn expect_write<R: Wait + Abort>(
@@ -155,18 +160,22 @@ fn expect_writes_go_on<R: Wait + Abort>(
 #[test]
 fn a_stream_without_positions_is_full(rt: HostRuntime) {
     let alloc = rt.alloc();
-    let (writers, mut pass) = two(alloc, 0).expect(&rt, "memory");
+    let (writers, mut pass) = two(&rt, alloc, 0);
     let full = Err(Refused::Full(0, 0));
     expect_write(&rt, alloc, &writers, &mut pass, 0, 10, full);
+    drop(pass);
+    drop(writers);
 }
 
 #[test]
 fn two_writers_write_in_turn_until_the_stream_is_full(rt: HostRuntime) {
     let alloc = rt.alloc();
-    let (writers, mut pass) = two(alloc, 3).expect(&rt, "memory");
+    let (writers, mut pass) = two(&rt, alloc, 3);
     expect_turns(&rt, alloc, &writers, &mut pass);
     expect_writes_go_on(&rt, alloc, &writers, &mut pass);
     expect_items(&rt, alloc, writers.stream(), &mut pass, 3, &[10, 20, 30]);
+    drop(pass);
+    drop(writers);
 }
 
 /// The second writer and a pass of its own.
@@ -245,14 +254,18 @@ fn expect_second_between<R: Wait + Abort>(
     let written = first_at_gate(rt, alloc, writers, &party, &answer, pass);
     assert_eq!(rt; written, stored(1, 0, 2));
     assert_eq!(rt; *answer.lock(rt), stored(2, 0, 0).ok());
+    drop(answer);
+    drop(party);
 }
 
 #[test]
 fn a_held_block_holds_the_front(rt: HostRuntime) {
     let alloc = rt.alloc();
-    let (writers, mut pass) = two(alloc, 10).expect(&rt, "memory");
+    let (writers, mut pass) = two(&rt, alloc, 10);
     expect_second_between(&rt, alloc, &writers, &mut pass);
     expect_items(&rt, alloc, writers.stream(), &mut pass, 2, &[10, 20]);
+    drop(pass);
+    drop(writers);
 }
 
 /// Writes fifty numbers from `from` on, each by one more own store.
@@ -307,7 +320,7 @@ fn expect_fifty_each<R: Threads + Wait + Sync + Abort>(
 #[test]
 fn own_lists_are_the_same_whatever_the_schedule(rt: HostRuntime) {
     let alloc = rt.alloc();
-    let (writers, mut pass) = two(alloc, 1000).expect(&rt, "memory");
+    let (writers, mut pass) = two(&rt, alloc, 1000);
     expect_fifty_each(&rt, alloc, &writers, &mut pass);
     let parts = writers
         .stream()
@@ -315,4 +328,7 @@ fn own_lists_are_the_same_whatever_the_schedule(rt: HostRuntime) {
         .expect(&rt, "memory");
     assert_eq!(rt; (parts.stores(), parts.front()), (100, 100));
     assert_eq!(rt; ends_of_runs(&parts, 1024, 2048), (1074, 2098));
+    drop(parts);
+    drop(pass);
+    drop(writers);
 }
