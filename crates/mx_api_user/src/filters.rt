@@ -1,5 +1,6 @@
 //! The filter of a sync, and stored filters.
 ghost use Rattle.std.specs.Prelude.{◌≡◌, IfOk, option_map};
+ghost use Rattle.std.specs.Result.{result_err};
 ghost use Rattle.mx_api.specs.Calls.{IsAsked};
 ghost use Rattle.mx_api_user.specs.Filters.{filter_asked, filter_put, get_filter_asked, inline_in, put_filter_asked};
 
@@ -74,12 +75,34 @@ fn filter_put(alloc: Global, who: Who, filter: Json) -> Result<Asked, Memory>
     ensures asked { IfOk result (λ asked. asked ≡ filter_put who filter) }
     ensures sound { IfOk result (λ asked. IsAsked asked) }
 {
-    match inline_filter(alloc, &filter)? {
-        Ok(_) => {
+    match refusal_of(alloc, &filter) {
+        Ok(None) => {
             let ask = Ask::PutFilter { filter };
             Ok(Asked::Request(Request { who, ask }))
         }
-        Err(refused) => Ok(Asked::Refused(refused)),
+        Ok(Some(refused)) => {
+            drop(who);
+            drop(filter);
+            Ok(Asked::Refused(refused))
+        }
+        Err(memory) => {
+            drop(who);
+            drop(filter);
+            Err(memory)
+        }
+    }
+}
+
+/// Why a value doesn't describe a filter, if it doesn't.
+fn refusal_of(alloc: Global, json: &Json) -> Result<Option<Refused>, Memory>
+    ensures { IfOk result (λ refused. refused ≡ result_err (inline_in json.now)) }
+{
+    match inline_filter(alloc, json)? {
+        Ok(filter) => {
+            drop(filter);
+            Ok(None)
+        }
+        Err(refused) => Ok(Some(refused)),
     }
 }
 
