@@ -185,8 +185,8 @@ impl Kept {
         ensures known { OnOk result (is_in self.new.places.names event.now.sender ≡ true) }
         ensures names { Longer self.old.places.names self.new.places.names }
     {
-        let change = change_of(alloc, event)?;
         self.places.reserve(alloc, count, &event.sender)?;
+        let change = change_of(alloc, event)?;
         make_place(alloc, &mut self.memberships, target(event), &change)?;
         Ok(change)
     }

@@ -44,9 +44,9 @@ impl Senders {
             return Ok(());
         }
         let number = self.names.len();
-        let key = String::from_str(alloc, user.as_str())?;
-        let name = user.copy(alloc)?;
         self.names.reserve(1)?;
+        let name = user.copy(alloc)?;
+        let key = String::from_str(alloc, user.as_str())?;
         self.numbers.insert(key, number)?;
         self.names.push(name).unwrap();
         Ok(())

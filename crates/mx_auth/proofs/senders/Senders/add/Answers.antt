@@ -9,6 +9,12 @@ returns-then-contains_key-clause-known c =
     numbered_seen c.args.self.now.names c.self.inside.names.items c.self.inside.numbers c.as_str.result.now c.args.user.now c.as_str.ensures.text (ap (λ (s : SenderList). s.names) c.self.view_is) c.self.invariant
     (sym c.contains_key.ensures ∙ c.if-contains_key.true)
 
+pub invariant_of-self-in_err-name : goal.invariant_of-self-in_err-name
+invariant_of-self-in_err-name c = subst (λ ns. IsNumbered ns c.self.inside.numbers) (sym c.reserve.ensures.items) c.self.invariant
+
+pub invariant_of-self-in_err-key : goal.invariant_of-self-in_err-key
+invariant_of-self-in_err-key c = subst (λ ns. IsNumbered ns c.self.inside.numbers) (sym c.reserve.ensures.items) c.self.invariant
+
 pub invariant_of-self-in_err-insert : goal.invariant_of-self-in_err-insert
 invariant_of-self-in_err-insert c =
     unchanged_numbered c.self.inside.names.items c.reserve.new.self.items c.self.inside.numbers c.insert.new.self c.reserve.ensures.items c.in_err-insert.ensures.err c.self.invariant
