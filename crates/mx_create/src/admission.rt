@@ -86,8 +86,17 @@ fn first_denied(alloc: Global, events: &[Event]) -> Result<Option<u8>, Memory>
     ensures { IfOk result (λ rule. first_denied [] events.now ≡ rule) }
 {
     let mut state = AuthState::empty(alloc);
+    let denied = denied_after(&mut state, events);
+    drop(state);
+    denied
+}
+
+/// The rule that refuses the first of the events that isn't allowed after a state and those before it.
+fn denied_after(state: &mut AuthState, events: &[Event]) -> Result<Option<u8>, Memory>
+    ensures { IfOk result (λ rule. first_denied state.old.events events.now ≡ rule) }
+{
     'events: for event in events {
-        if let Err(denial) = allowed(event, &state) {
+        if let Err(denial) = allowed(event, state) {
             return Ok(Some(denial.rule));
         }
         state.take(event)?;

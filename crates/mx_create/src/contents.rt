@@ -97,28 +97,33 @@ fn default_powers(
     ensures { IfOk result (λ ms. ms ≡ default_powers preset creator.now ask.now) }
 {
     let mut levels = Members::new(alloc);
-    put(alloc, &mut levels, "ban", Json::Int(50))?;
-    put(
-        alloc,
-        &mut levels,
-        "events",
-        Json::Object(Members::new(alloc)),
-    )?;
-    put(alloc, &mut levels, "events_default", Json::Int(0))?;
-    put(alloc, &mut levels, "invite", Json::Int(0))?;
-    put(alloc, &mut levels, "kick", Json::Int(50))?;
-    put(
-        alloc,
-        &mut levels,
-        "notifications",
-        single(alloc, "room", Json::Int(50))?,
-    )?;
-    put(alloc, &mut levels, "redact", Json::Int(50))?;
-    put(alloc, &mut levels, "state_default", Json::Int(50))?;
-    let users = first_levels(alloc, preset, creator, ask)?;
-    put(alloc, &mut levels, "users", Json::Object(users))?;
-    put(alloc, &mut levels, "users_default", Json::Int(0))?;
+    put_defaults(alloc, &mut levels, preset, creator, ask)?;
     Ok(levels)
+}
+
+/// Sets the power levels of a new room at their keys.
+fn put_defaults(
+    alloc: Global,
+    levels: &mut Members<Json>,
+    preset: Preset,
+    creator: &UserId,
+    ask: &Json,
+) -> Result<(), Memory>
+    ensures { OnOk result (levels.old ≡ [] → levels.new ≡ default_powers preset creator.now ask.now) }
+{
+    put(alloc, levels, "ban", Json::Int(50))?;
+    let events = Json::Object(Members::new(alloc));
+    put(alloc, levels, "events", events)?;
+    put(alloc, levels, "events_default", Json::Int(0))?;
+    put(alloc, levels, "invite", Json::Int(0))?;
+    put(alloc, levels, "kick", Json::Int(50))?;
+    let notifications = single(alloc, "room", Json::Int(50))?;
+    put(alloc, levels, "notifications", notifications)?;
+    put(alloc, levels, "redact", Json::Int(50))?;
+    put(alloc, levels, "state_default", Json::Int(50))?;
+    let users = Json::Object(first_levels(alloc, preset, creator, ask)?);
+    put(alloc, levels, "users", users)?;
+    put(alloc, levels, "users_default", Json::Int(0))
 }
 
 /// The users with a level of their own: the creator, and in a trusted room those who are invited.
