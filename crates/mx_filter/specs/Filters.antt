@@ -21,6 +21,10 @@ texts_at key part = option_map texts_of (option_and_then list_of (field_at key p
 abbrev pub texts_or_none : List ℕ → Option Json → List (List ℕ)
 texts_or_none key part = unwrap_or (texts_at key part) []
 
+-- the texts at a key, if there is a list of them, and those at another
+abbrev pub choice_in : List ℕ → List ℕ → Option Json → Option (List (List ℕ)) × List (List ℕ)
+choice_in wanted unwanted part = (texts_at wanted part, texts_or_none unwanted part)
+
 abbrev pub truth_at : List ℕ → Option Json → Bool
 truth_at key part = unwrap_or (option_and_then bool_of (field_at key part)) false
 
@@ -44,6 +48,11 @@ event_filter part = record {
   contains_url = option_and_then bool_of (field_at (codes "contains_url") part);
 }
 
+-- of a room's ephemeral events and account data, and of global account data
+abbrev pub data_filters : Option Json → Option Json → TypeFilter × (TypeFilter × TypeFilter)
+data_filters room account =
+    (type_filter (field_at (codes "ephemeral") room), (type_filter (field_at (codes "account_data") room), type_filter account))
+
 -- by the part `room` and the part `account_data`
 abbrev pub selection : Option Json → Option Json → Selection
 selection room account = record {
@@ -58,6 +67,10 @@ selection room account = record {
   lazy = truth_at (codes "lazy_load_members") (field_at (codes "state") room);
   redundant = truth_at (codes "include_redundant_members") (field_at (codes "state") room);
 }
+
+-- the same, with another timeline and lazy members
+abbrev pub selection_by : Option Json → Option Json → Option Json → Bool → Selection
+selection_by room timeline account lazy = record (selection room account) { timeline = event_filter timeline; lazy = lazy }
 
 -- the filter of a sync; that of a request without one is the filter of `{}`
 abbrev pub filter_by : Option Json → Option Json → Filter

@@ -2,7 +2,7 @@
 ghost use Rattle.std.specs.Prelude.{◌≡◌, ◌++◌, option_and_then, option_map, IfOk, OnOk};
 ghost use Rattle.std.specs.Option.{option_to_list};
 ghost use Rattle.mx_json.specs.Fields.{bool_of, text_of};
-ghost use Rattle.mx_filter.specs.Filters.{field_at, limit_in, texts_at, texts_of, texts_or_none, truth_at};
+ghost use Rattle.mx_filter.specs.Filters.{choice_in, field_at, limit_in, texts_at, texts_of, texts_or_none, truth_at};
 
 use mx_ids::{Copied, Memory, Seq, Text};
 use mx_json::Json;
@@ -12,6 +12,31 @@ pub(crate) fn field_at<'a>(part: Option<&'a Json>, key: &str) -> Option<&'a Json
     ensures { option_map (λ v. v.now) result ≡ field_at key.now (option_map (λ p. p.now) part.entry) }
 {
     part?.field(key)
+}
+
+/// Both values, or the first fault.
+pub(crate) fn both<A: Drop, B: Drop>(
+    first: Result<A, Memory>,
+    second: Result<B, Memory>,
+) -> Result<(A, B), Memory>
+    ensures { (a : A) (b : B) → IfOk first (λ x. x ≡ a) → IfOk second (λ y. y ≡ b) → IfOk result (λ p. p ≡ (a, b)) }
+{
+    Ok((first?, second?))
+}
+
+/// The texts that are wanted, if there is a list of them, and those that aren't.
+pub(crate) fn choice_in(
+    alloc: Global,
+    part: Option<&Json>,
+    wanted: &str,
+    unwanted: &str,
+) -> Result<(Option<Seq<Text>>, Seq<Text>), Memory>
+    ensures { IfOk result (λ p. p ≡ choice_in wanted.now unwanted.now (option_map (λ p. p.now) part.entry)) }
+{
+    both(
+        texts_at(alloc, part, wanted),
+        texts_or_none(alloc, part, unwanted),
+    )
 }
 
 /// The texts of the list at a key; `None` where there is no list.
