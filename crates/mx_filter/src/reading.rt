@@ -7,9 +7,7 @@ ghost use Rattle.mx_filter.specs.declared.fault.FilterFault.TheVariants as fault
 use crate::checks::{check_filter, check_page_filter, is_federation};
 use crate::fault::FilterFault;
 use crate::parts::{EventFilter, Filter, Selection, TypeFilter};
-use crate::texts::{
-    both, choice_at, choice_in, field_at, limit_in, texts_at, texts_or_none, truth_at,
-};
+use crate::texts::{both, choice_at, choice_in, field_at, limit_in, truth_at};
 use mx_ids::Memory;
 use mx_json::Json;
 use std::alloc::Global;
@@ -143,8 +141,6 @@ fn event_filter(alloc: Global, part: Option<&Json>) -> Result<EventFilter, Memor
 fn type_filter(alloc: Global, part: Option<&Json>) -> Result<TypeFilter, Memory>
     ensures { IfOk result (λ f. f ≡ type_filter (option_map (λ p. p.now) part.entry)) }
 {
-    Ok(TypeFilter {
-        types: texts_at(alloc, part, "types")?,
-        not_types: texts_or_none(alloc, part, "not_types")?,
-    })
+    let (types, not_types) = choice_in(alloc, part, "types", "not_types")?;
+    Ok(TypeFilter { types, not_types })
 }

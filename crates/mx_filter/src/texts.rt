@@ -40,11 +40,7 @@ pub(crate) fn choice_in(
 }
 
 /// The texts of the list at a key; `None` where there is no list.
-pub(crate) fn texts_at(
-    alloc: Global,
-    part: Option<&Json>,
-    key: &str,
-) -> Result<Option<Seq<Text>>, Memory>
+fn texts_at(alloc: Global, part: Option<&Json>, key: &str) -> Result<Option<Seq<Text>>, Memory>
     ensures { IfOk result (λ o. o ≡ texts_at key.now (option_map (λ p. p.now) part.entry)) }
 {
     let Some(value) = field_at(part, key) else {
@@ -57,11 +53,7 @@ pub(crate) fn texts_at(
 }
 
 /// The texts of the list at a key; none where there is no list.
-pub(crate) fn texts_or_none(
-    alloc: Global,
-    part: Option<&Json>,
-    key: &str,
-) -> Result<Seq<Text>, Memory>
+fn texts_or_none(alloc: Global, part: Option<&Json>, key: &str) -> Result<Seq<Text>, Memory>
     ensures { IfOk result (λ ts. ts ≡ texts_or_none key.now (option_map (λ p. p.now) part.entry)) }
 {
     match texts_at(alloc, part, key)? {
