@@ -1,5 +1,5 @@
 -- Keys in order: those that a `BTreeMap` gives, and those that go into one.
-use Rattle.std.proofs.Common.{◌≡◌, ℕ, ◌+◌, List, [], ◌∷◌, ◌++◌, take, drop, true, Ordering, Less, Equal, Greater, refl, sym, ap, ◌∙◌, append_assoc}
+use Rattle.std.proofs.Common.{◌≡◌, ℕ, ◌+◌, List, [], ◌∷◌, ◌++◌, take, drop, map, true, Ordering, Less, Equal, Greater, refl, sym, ap, ◌∙◌, append_assoc}
 use Rattle.std.proofs.lemmas.Bool.{and_parts}
 use Rattle.std.proofs.lemmas.Cmp.{nat_list_cmp_total}
 use Rattle.std.proofs.lemmas.List.{map-append, take-append-drop}
@@ -81,3 +81,11 @@ put_next ms i m more order =
     let split = sym (map-append (λ x. x.key) (take (i + 1) ms) (drop (i + 1) ms)) ∙ ap keys.keys_of (take-append-drop (i + 1) ms) in
     let front = ordered_front (keys.keys_of (take (i + 1) ms)) (keys.keys_of (drop (i + 1) ms)) (ap are_ordered split ∙ order) in
     put_above (take i ms) m (ap (λ l. are_ordered (keys.keys_of l)) (sym more) ∙ front) ∙ ap members_data (sym more)
+
+-- one item more at the end of what was made, and one less of what is left
+pub pushed_on : {X : Type 0} (made new left whole : List X) (x : X) → new ≡ made ++ x ∷ [] → made ++ x ∷ left ≡ whole → new ++ left ≡ whole
+pushed_on made new left whole x pushed h = ap (λ l. l ++ left) pushed ∙ append_assoc made (x ∷ []) left ∙ h
+
+-- the same of a list's front, of whose items something is made one by one
+pub mapped_on : {X Y : Type 0} (f : X → Y) (xs : List X) (i : ℕ) (x : X) (made new : List Y) → take (i + 1) xs ≡ take i xs ++ x ∷ [] → made ≡ map f (take i xs) → new ≡ made ++ f x ∷ [] → new ≡ map f (take (i + 1) xs)
+mapped_on f xs i x made new more so_far pushed = pushed ∙ ap (λ ys. ys ++ f x ∷ []) so_far ∙ sym (map-append f (take i xs) (x ∷ [])) ∙ ap (map f) (sym more)

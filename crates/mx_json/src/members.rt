@@ -19,7 +19,7 @@ pub struct Member<V> {
 /// The members of an object: each key once, and the keys in byte order. Contracts see them as the list of members.
 #[derive(Debug, Drop)]
 pub struct Members<V> {
-    entries: Seq<Member<V>>,
+    pub(crate) entries: Seq<Member<V>>,
 }
 
 impl<V> Model for Members<V> {

@@ -1,11 +1,15 @@
 //! Reading a text.
-ghost use Rattle.std.specs.Prelude.{◌≡◌, ◌≢◌, IfOk, IfErr, Ok, Err};
+ghost use Rattle.std.specs.Prelude.{◌≡◌, ◌≢◌, [], ◌∷◌, ◌++◌, true, IfOk, IfErr, OnOk, Ok, Err};
+ghost use Rattle.std.specs.String.{string_bytes};
 ghost use Rattle.serde_json.specs.View.{view, number_view, items_view, members_view};
 ghost use Rattle.serde_json.specs.Find.{as_i64};
 ghost use Rattle.mx_json.specs.declared.fault.JsonFault.TheVariants as faults;
+ghost use Rattle.mx_json.specs.declared.value.Json as json;
+ghost use Rattle.mx_json.specs.Keys.{keys_of, are_ordered};
 ghost use Rattle.mx_json.specs.Values.{whole, json_of, jsons_of, members_of_data};
 ghost use Rattle.mx_json.specs.Reading.{checked, read_json};
 
+use crate::copied::push_made;
 use crate::fault::JsonFault;
 use crate::members::Members;
 use crate::numbers::{Flaw, is_flawed};
@@ -60,31 +64,43 @@ fn json_from(alloc: Global, value: Value) -> Result<Json, Memory>
         Value::Bool(b) => Ok(Json::Bool(b)),
         Value::Number(number) => Ok(number_from(number)),
         Value::String(text) => Ok(Json::Text(Text::from_string(text))),
-        Value::Array(items) => Ok(Json::List(list_from(alloc, items)?)),
-        Value::Object(members) => Ok(Json::Object(members_from(alloc, members)?)),
+        Value::Array(items) => list_from(alloc, items),
+        Value::Object(members) => members_from(alloc, members),
     }
 }
 
 #[cycle(from)]
-fn list_from(alloc: Global, items: Vec<Value>) -> Result<Seq<Json>, Memory>
-    ensures { IfOk result (λ l. l ≡ jsons_of (items_view items.items)) }
+fn list_from(alloc: Global, items: Vec<Value>) -> Result<Json, Memory>
+    ensures { IfOk result (λ j. j ≡ json.List (jsons_of (items_view items.items))) }
 {
     let mut list = Vec::with_capacity(alloc, items.len())?;
     for item in items {
-        list.push(json_from(alloc, item)?)?;
+        push_made(&mut list, json_from(alloc, item))?;
     }
-    Ok(Seq::from_vec(list))
+    Ok(Json::List(Seq::from_vec(list)))
 }
 
 #[cycle(from)]
-fn members_from(alloc: Global, entries: Map<String, Value>) -> Result<Members<Json>, Memory>
-    ensures { IfOk result (λ ms. ms ≡ members_of_data (members_view entries.entries)) }
+fn members_from(alloc: Global, entries: Map<String, Value>) -> Result<Json, Memory>
+    ensures { IfOk result (λ j. j ≡ json.Object (members_of_data (members_view entries.entries))) }
 {
     let mut members = Members::new(alloc);
     for (key, value) in entries {
-        members.push(Text::from_string(key), json_from(alloc, value)?)?;
+        push_member(&mut members, key, json_from(alloc, value))?;
     }
-    Ok(members)
+    Ok(Json::Object(members))
+}
+
+/// Puts a member at the end, where its value was made. Its key is above all keys there are.
+fn push_member(
+    members: &mut Members<Json>,
+    key: String,
+    made: Result<Json, Memory>,
+) -> Result<(), Memory>
+    requires { are_ordered (keys_of members.old ++ string_bytes key ∷ []) ≡ true }
+    ensures { (value : json.Json) → IfOk made (λ v. v ≡ value) → OnOk result (members.new ≡ members.old ++ record { key = string_bytes key; value = value } ∷ []) }
+{
+    members.push(Text::from_string(key), made?)
 }
 
 fn number_from(number: Number) -> Json

@@ -1,8 +1,8 @@
 //! Writing a value as compact text.
-ghost use Rattle.std.specs.Prelude.{◌≡◌, ◌≤◌, ◌++◌, Ok, IfOk, OnOk, OnErr};
-ghost use Rattle.serde_json.specs.Data.{depth};
+ghost use Rattle.std.specs.Prelude.{◌≡◌, ◌≤◌, [], ◌∷◌, ◌++◌, map, Ok, IfOk, OnOk, OnErr};
+ghost use Rattle.serde_json.specs.Data.{Data, array, depth, object, put};
 ghost use Rattle.serde_json.specs.Read.{max_depth};
-ghost use Rattle.serde_json.specs.View.{view, items_view, members_view};
+ghost use Rattle.serde_json.specs.View.{view, members_view};
 ghost use Rattle.mx_json.specs.Values.{data_of, items_data, members_data};
 ghost use Rattle.mx_json.specs.Laws.{IsInRange};
 ghost use Rattle.mx_json.specs.Reading.{read_json};
@@ -39,30 +39,52 @@ fn value_of(alloc: Global, json: &Json) -> Result<Value, Memory>
         Json::Bool(b) => Ok(Value::Bool(*b)),
         Json::Int(n) => Ok(Value::Number(Number::from(*n))),
         Json::Text(text) => Ok(Value::String(String::from_str(alloc, text.as_str())?)),
-        Json::List(items) => Ok(Value::Array(values_of(alloc, items)?)),
-        Json::Object(members) => Ok(Value::Object(map_of(alloc, members)?)),
+        Json::List(items) => array_of(alloc, items),
+        Json::Object(members) => object_of(alloc, members),
     }
 }
 
 #[cycle(value_of)]
-fn values_of(alloc: Global, list: &Seq<Json>) -> Result<Vec<Value>, Memory>
-    ensures { IfOk result (λ vs. items_view vs.items ≡ items_data list.now) }
+fn array_of(alloc: Global, list: &Seq<Json>) -> Result<Value, Memory>
+    ensures { IfOk result (λ v. view v ≡ array (items_data list.now)) }
 {
     let mut values = Vec::with_capacity(alloc, list.len())?;
     for item in list.as_slice() {
-        values.push(value_of(alloc, item)?)?;
+        push_value(&mut values, value_of(alloc, item))?;
     }
-    Ok(values)
+    Ok(Value::Array(values))
 }
 
 #[cycle(value_of)]
-fn map_of(alloc: Global, members: &Members<Json>) -> Result<Map<String, Value>, Memory>
-    ensures { IfOk result (λ m. members_view m.entries ≡ members_data members.now) }
+fn object_of(alloc: Global, members: &Members<Json>) -> Result<Value, Memory>
+    ensures { IfOk result (λ v. view v ≡ object (members_data members.now)) }
 {
     let mut map = Map::new(alloc);
     for member in members.as_slice() {
-        let key = String::from_str(alloc, member.key.as_str())?;
-        drop(map.insert(key, value_of(alloc, &member.value)?)?);
+        insert_value(alloc, &mut map, &member.key, value_of(alloc, &member.value))?;
     }
-    Ok(map)
+    Ok(Value::Object(map))
+}
+
+/// Puts a value at the end of a list, where it was made.
+fn push_value(values: &mut Vec<Value>, made: Result<Value, Memory>) -> Result<(), Memory>
+    ensures { (d : Data) → IfOk made (λ v. view v ≡ d) → OnOk result (map view values.new.items ≡ map view values.old.items ++ d ∷ []) }
+{
+    values.push(made?)?;
+    Ok(())
+}
+
+/// Puts a value at a key, where it was made.
+fn insert_value(
+    alloc: Global,
+    map: &mut Map<String, Value>,
+    key: &Text,
+    made: Result<Value, Memory>,
+) -> Result<(), Memory>
+    ensures { (d : Data) → IfOk made (λ v. view v ≡ d) → OnOk result (members_view map.new.entries ≡ put key.now d (members_view map.old.entries)) }
+{
+    let value = made?;
+    let key = String::from_str(alloc, key.as_str())?;
+    drop(map.insert(key, value)?);
+    Ok(())
 }
