@@ -1,8 +1,11 @@
-use Rattle.std.proofs.Common.{◌≡◌, ◌+◌, [], ◌∷◌, ◌++◌, take, ap, ◌∙◌, arith}
+use Rattle.std.proofs.Common.{◌≡◌, ◌+◌, [], ◌∷◌, ◌++◌, take, map, ap, ◌∙◌, arith}
 use Rattle.std.proofs.lemmas.Grind.{common_steps}
+use Rattle.serde_json.proofs.Views.{view-Array, view-Object}
+use Rattle.serde_json.specs.Data.{array, object}
+use Rattle.serde_json.specs.View.{items_of}
 use Rattle.mx_json.specs.Keys.{keys_of, are_ordered}
 use Rattle.mx_json.specs.declared.value.Json.{Json}
-use Rattle.mx_json.specs.Values.{data_of}
+use Rattle.mx_json.specs.Values.{data_of, members_data}
 use Rattle.mx_json.proofs.Order.{mapped_on, put_next}
 use Rattle.mx_json.proofs.writer.+value_of.Goals as goal
 
@@ -22,3 +25,17 @@ array_of-loop-item-preserved t c =
     let item : Json = c.item-item.result in
     let more : take (l.item-index + 1) items ≡ take l.item-index items ++ item ∷ [] = grind (arith, common_steps, c.item-item.is, c.loop-item-test.true) in
     mapped_on data_of items l.item-index item _ _ more l.invariant (c.in_ok-push_value.ensures (data_of item) c.value_of.ensures)
+
+pub array_of-returns : goal.array_of-returns
+array_of-returns t c =
+    let l = c.loop-item in
+    let items = c.as_slice-item-items.result.now in
+    let whole : take l.item-index items ≡ items = grind (arith, common_steps, c.loop-item-test.false) in
+    view-Array l.values ∙ ap (λ ds. array (items_of ds)) (l.invariant ∙ ap (map data_of) (whole ∙ c.as_slice-item-items.ensures))
+
+pub object_of-returns : goal.object_of-returns
+object_of-returns t c =
+    let l = c.loop-member in
+    let members = c.as_slice-member-items.result.now in
+    let whole : take l.member-index members ≡ members = grind (arith, common_steps, c.loop-member-test.false) in
+    view-Object l.map ∙ ap object (l.invariant ∙ ap members_data (whole ∙ c.as_slice-member-items.ensures.value))
