@@ -21,16 +21,31 @@ use std::alloc::Global;
 pub fn page_form(alloc: Global, server: &str, device: u32, page: &Page) -> Result<Json, Memory>
     ensures { IfOk result (λ j. j ≡ form.page_form server.now device page.now) }
 {
-    let chunk = events_form(alloc, server, device, &page.chunk)?;
-    let end = end_form(alloc, &page.end)?;
-    let start = bound_form(alloc, &page.start)?;
-    let state = members_form(alloc, server, device, &page.members)?;
     let mut members = Members::new(alloc);
-    put(alloc, &mut members, "chunk", chunk)?;
-    put_if(alloc, &mut members, "end", end)?;
-    put(alloc, &mut members, "start", start)?;
-    put_if(alloc, &mut members, "state", state)?;
+    put_page(alloc, &mut members, server, device, page)?;
     Ok(Json::Object(members))
+}
+
+/// Puts the members of a page into an object that has none.
+fn put_page(
+    alloc: Global,
+    members: &mut Members<Json>,
+    server: &str,
+    device: u32,
+    page: &Page,
+) -> Result<(), Memory>
+    requires { members.old ≡ [] }
+    ensures { OnOk result (json.Object members.new ≡ form.page_form server.now device page.now) }
+{
+    let chunk = events_form(alloc, server, device, &page.chunk)?;
+    put(alloc, members, "chunk", chunk)?;
+    let end = end_form(alloc, &page.end)?;
+    put_if(alloc, members, "end", end)?;
+    let start = bound_form(alloc, &page.start)?;
+    put(alloc, members, "start", start)?;
+    let state = members_form(alloc, server, device, &page.members)?;
+    put_if(alloc, members, "state", state)?;
+    Ok(())
 }
 
 fn end_form(alloc: Global, end: &Option<PageToken>) -> Result<Option<Json>, Memory>

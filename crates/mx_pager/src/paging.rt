@@ -57,8 +57,9 @@ pub fn page(
     if !seen {
         return Err(PageFault::Forbidden);
     }
-    let page = read_page(alloc, &reading, ask)?;
-    Ok(page)
+    let page = read_page(alloc, &reading, ask);
+    drop(room_text);
+    Ok(page?)
 }
 
 /// The text of a room's id, at the user's server.
@@ -82,15 +83,20 @@ fn read_page(alloc: Global, reading: &Reading<'_>, ask: &PageAsk<'_>) -> Result<
     let position = members_at(ask, front);
     let members = page_members(alloc, reading, position, &chosen.events)?;
     let events = in_order(ask.backward, chosen.events);
-    let chunk = all_shown(alloc, reading, &events)?;
-    let start = ask.start(front);
-    let page = Page {
-        chunk,
-        start,
-        end,
-        members,
-    };
-    Ok(page)
+    let chunk = all_shown(alloc, reading, &events);
+    drop(events);
+    match chunk {
+        Ok(chunk) => Ok(Page {
+            chunk,
+            start: ask.start(front),
+            end,
+            members,
+        }),
+        Err(refused) => {
+            drop(members);
+            Err(refused)
+        }
+    }
 }
 
 /// The position of the state in which the members stand.
