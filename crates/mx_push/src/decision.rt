@@ -88,13 +88,18 @@ fn by_pattern<'a>(
     ensures { option_map (λ js. js.now) result ≡ first_match (judged (by_pattern (setting_of context.now) event.now) rules.now.entries) }
 {
     'rules: for (id, rule) in rules.iter() {
-        if is_tried(id, rule, event)
-            && matches("content.body", rule.test.as_str(), event, context)
-        {
+        if fits_body(id, rule, event, context) {
             return Some(&rule.actions);
         }
     }
     None
+}
+
+/// Whether a rule is tried, and its pattern fits the body.
+fn fits_body(id: &Text, rule: &Rule<Text>, event: &Event, context: &Context<'_>) -> bool
+    ensures { result ≡ by_pattern (setting_of context.now) event.now (id.now, rule.now) }
+{
+    is_tried(id, rule, event) && matches("content.body", rule.test.as_str(), event, context)
 }
 
 /// The actions of the rule that has the id.
