@@ -4,9 +4,11 @@ ghost use Rattle.std.specs.Prelude.{◌≡◌, ◌≤◌, ◌||◌, true, length
 ghost use Rattle.mx_folding.specs.Parts.{is_cons};
 ghost use Rattle.mx_fold.specs.Lists.{fronts_of, upto};
 ghost use Rattle.mx_rest.specs.Accounts.{account_in};
-ghost use Rattle.mx_rest.specs.Receipts.{shows};
+ghost use Rattle.mx_rest.specs.Receipts.{receipts_in, shows};
 ghost use Rattle.mx_rest.specs.Rests.{delta_of, differs_of, news, view_of};
 ghost use Rattle.mx_rest.specs.Servers.{AreValid, lists_of};
+ghost use Rattle.mx_snapshot.specs.Looks.{all_now};
+ghost use Rattle.mx_snapshot.specs.Receipts.{of_room};
 ghost use Rattle.mx_view.specs.Tokens.{is_before};
 
 use crate::accounts::account_after;
@@ -17,6 +19,7 @@ use crate::summaries::{summary_change, summary_now};
 use mx_filter::{DataPart, Filter};
 use mx_ids::{Memory, RoomId, Seq, SyncToken, Text, UserId};
 use mx_json::Json;
+use mx_receipt::Receipt;
 use mx_snapshot::Snapshot;
 use std::alloc::Global;
 
@@ -38,17 +41,25 @@ pub fn view(alloc: Global, rest: &Rest<'_>) -> Result<RoomView, Memory>
     requires valid { AreValid (lists_of rest.now.snapshot.now) }
     ensures { IfOk result (λ v. v ≡ view_of rest.now.user.now rest.now.filter.now.selection rest.now.room.now (lists_of rest.now.snapshot.now)) }
 {
-    let receipts = receipts_after(alloc, &rest.snapshot.receipts, rest.room, 0)?;
-    let standing = standing(alloc, &receipts, rest.user, shows(rest.filter))?;
-    let account = account_of(alloc, rest, 0)?;
     let counts = counts_now(alloc, rest)?;
     let summary = summary_now(alloc, rest)?;
+    let account = account_of(alloc, rest, 0)?;
+    let receipts = receipts_of(alloc, rest)?;
     Ok(RoomView {
-        receipts: standing,
+        receipts,
         account,
         counts,
         summary,
     })
+}
+
+/// The standing receipts of the room that the user sees.
+fn receipts_of(alloc: Global, rest: &Rest<'_>) -> Result<Seq<Receipt>, Memory>
+    ensures { IfOk result (λ made. made ≡ receipts_in rest.now.filter.now.selection rest.now.user.now rest.now.room.now rest.now.snapshot.now.receipts) }
+{
+    let receipts = receipts_after(alloc, &rest.snapshot.receipts, rest.room, 0)?;
+    let made = standing(alloc, &receipts, rest.user, shows(rest.filter))?;
+    Ok(made)
 }
 
 /// The change of the rest of a room from an earlier token, whose `b` says nothing here, to the snapshot's fronts. Each
@@ -61,11 +72,29 @@ pub fn change(alloc: Global, rest: &Rest<'_>, since: &SyncToken) -> Result<Chang
     ensures differs { IfOk result (λ c. c.differs ≡ differs_of rest.now.user.now rest.now.filter.now.selection rest.now.room.now (upto since.now (lists_of rest.now.snapshot.now)) (lists_of rest.now.snapshot.now)) }
 {
     let receipts = receipts_after(alloc, &rest.snapshot.receipts, rest.room, since.r)?;
-    let standing = standing(alloc, &receipts, rest.user, shows(rest.filter))?;
-    let account = account_of(alloc, rest, since.a)?;
+    let made = change_with(alloc, rest, since, &receipts);
+    drop(receipts);
+    made
+}
+
+/// The change, by the room's receipts after the token.
+fn change_with(
+    alloc: Global,
+    rest: &Rest<'_>,
+    since: &SyncToken,
+    receipts: &[&Receipt],
+) -> Result<Change, Memory>
+    requires valid { AreValid (lists_of rest.now.snapshot.now) }
+    requires behind { is_before since.now (fronts_of (lists_of rest.now.snapshot.now)) ≡ true }
+    requires receipts { all_now receipts.now ≡ of_room rest.now.room.now (news (take since.now.r rest.now.snapshot.now.receipts) rest.now.snapshot.now.receipts) }
+    ensures delta { IfOk result (λ c. c.delta ≡ delta_of rest.now.user.now rest.now.filter.now.selection rest.now.room.now (upto since.now (lists_of rest.now.snapshot.now)) (lists_of rest.now.snapshot.now)) }
+    ensures differs { IfOk result (λ c. c.differs ≡ differs_of rest.now.user.now rest.now.filter.now.selection rest.now.room.now (upto since.now (lists_of rest.now.snapshot.now)) (lists_of rest.now.snapshot.now)) }
+{
     let counts = counts_now(alloc, rest)?;
-    let counted = counts_differ(alloc, rest, since, &receipts, counts)?;
+    let counted = counts_differ(alloc, rest, since, receipts, counts)?;
     let summary = summary_change(alloc, rest, since)?;
+    let account = account_of(alloc, rest, since.a)?;
+    let standing = standing(alloc, receipts, rest.user, shows(rest.filter))?;
     let delta = RoomDelta {
         receipts: standing,
         account,
