@@ -1,3 +1,4 @@
 mod Listed
 mod Placed
 mod Seen
+mod Joins

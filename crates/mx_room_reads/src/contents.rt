@@ -2,6 +2,7 @@
 
 ghost use Rattle.std.specs.Prelude.{◌≡◌, IfOk, IfSome, option_map, is_some};
 ghost use Rattle.std.specs.Option.{option_copied};
+ghost use Rattle.mx_ask.specs.declared.said.Said.TheVariants as said;
 ghost use Rattle.mx_event.specs.declared.event.Event.{Event};
 ghost use Rattle.mx_event.specs.declared.event.Shown as shows;
 ghost use Rattle.mx_rest.specs.Servers.{AreValid, lists_of};
@@ -66,12 +67,32 @@ fn content_said(was_joined: bool, shown: Option<Shown>) -> Said
     match shown {
         Some(shown) => {
             if was_joined {
-                let event = shown.event;
-                Said::Content(event.content)
+                content_of(shown)
             } else {
+                drop(shown);
                 Said::Refused(Refusal::Forbidden)
             }
         }
         None => Said::Refused(Refusal::NotFound),
     }
+}
+
+fn content_of(shown: Shown) -> Said
+    ensures { result ≡ said.Content shown.event.content }
+{
+    let Shown { event, because } = shown;
+    drop(because);
+    let Event {
+        kind,
+        state_key,
+        sender,
+        content,
+        txn,
+        ..
+    } = event;
+    drop(kind);
+    drop(state_key);
+    drop(sender);
+    drop(txn);
+    Said::Content(content)
 }

@@ -51,6 +51,7 @@ fn state_to(
 {
     let _front = snapshot.events.front();
     let state = state_at(alloc, &snapshot.events, room, place)?;
-    let shown = all_shown(alloc, snapshot, user, room, &state)?;
-    Ok(Said::State(shown))
+    let shown = all_shown(alloc, snapshot, user, room, &state);
+    drop(state);
+    Ok(Said::State(shown?))
 }

@@ -37,8 +37,10 @@ pub(crate) fn all_shown(
         user,
         filter: &filter,
     };
-    let shown = mx_parts::all_shown(alloc, &reading, events)?;
-    Ok(shown)
+    let shown = mx_parts::all_shown(alloc, &reading, events);
+    drop(filter);
+    drop(text);
+    shown
 }
 
 /// A copy of an event of a room, if there is one, as it is shown to a user at the front.
@@ -57,7 +59,9 @@ pub(crate) fn shown(
         Some(event) => {
             let shown = all_shown(alloc, snapshot, user, room, [event].as_slice())?;
             let mut shown = shown.into_vec().into_iter();
-            Ok(shown.next())
+            let first = shown.next();
+            drop(shown);
+            Ok(first)
         }
         None => Ok(None),
     }

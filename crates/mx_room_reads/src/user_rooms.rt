@@ -19,8 +19,9 @@ pub fn joined_rooms(alloc: Global, snapshot: &Snapshot, user: &UserId) -> Result
     ensures { IfOk result (λ said. said ≡ read.joined_rooms_said (lists_of snapshot.now) user.now) }
 {
     let own = snapshot.events.rooms_of(alloc, user.as_str())?;
-    let rooms = joined_among(alloc, &own)?;
-    Ok(Said::Rooms(Seq::from_vec(rooms)))
+    let rooms = joined_among(alloc, &own);
+    drop(own);
+    Ok(Said::Rooms(Seq::from_vec(rooms?)))
 }
 
 /// Those of some rooms in which the user's last member event is a join.

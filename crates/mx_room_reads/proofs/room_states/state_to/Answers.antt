@@ -6,8 +6,8 @@ use Rattle.mx_room_reads.specs.Reads.{AreListed, all_shown}
 use Rattle.mx_room_reads.proofs.Listed.{state_is, states_listed}
 use Rattle.mx_room_reads.proofs.room_states.state_to.Goals as goal
 
-pub all_shown-requires-clause-listed : goal.all_shown-requires-clause-listed
-all_shown-requires-clause-listed c =
+pub all_shown-shown-requires-clause-listed : goal.all_shown-shown-requires-clause-listed
+all_shown-shown-requires-clause-listed c =
     let l = lists_of c.args.snapshot.now in
     let room = c.args.room.now in
     subst (AreListed l room) (sym (ap all_now c.deref.ensures.value ∙ state_is l room c.args.place _ c.in_ok-state.ensures))
