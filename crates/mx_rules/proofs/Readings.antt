@@ -2,13 +2,16 @@
 use Rattle.std.proofs.Common.{ℕ, ◌≡◌, Bool, true, false, ◌||◌, List, [], ◌∷◌, ◌++◌, Option, Some, None, is_some, option_map, option_and_then, cond, if◌then◌else◌, refl, sym, ap, ◌∙◌, append-nil, append_assoc}
 use Rattle.std.proofs.lemmas.List.{map-append}
 use Rattle.std.specs.List.{list_any}
+use Rattle.std.specs.Bool.{then_some}
 use Rattle.std.specs.Map.{keys_of}
 use Rattle.indexmap.specs.IndexMap.{insert_entry}
 use Rattle.mx_json.specs.declared.members.Member.{Member}
 use Rattle.mx_json.specs.declared.value.Json.{Json}
 use Rattle.mx_rules.specs.Edits.{Entries, find, is_id}
-use Rattle.mx_rules.specs.Reading.{Lists, add_all, add_entry, are_new, asks_conditions, asks_nothing, asks_pattern, each, entries_in, entry_in, lists_in, rules_by, rules_in, whole}
+use Rattle.mx_rules.specs.Reading.{Lists, add_all, add_entry, add_lists, are_new, asks_conditions, asks_nothing, asks_pattern, each, entries_in, entry_in, lists_in, rules_by, rules_in}
+use Rattle.mx_rules.specs.Rules.{Rules, no_rules, rules_of}
 use Rattle.mx_rules.specs.declared.rule.Rule.{Rule}
+use Rattle.mx_rules.specs.declared.rule_set.RuleSet.{RuleSet}
 
 module _ {T : Type 0} where
   found : (id : List ℕ) (es : Entries T) → is_some (find id es) ≡ list_any (is_id id) (keys_of es)
@@ -63,8 +66,14 @@ module _ {T : Type 0} where
     pub adds_all : (js : List Json) → add_all asks js [] ≡ entries_in asks js
     adds_all js = adds js []
 
+kept : {A B : Type 0} (f : A → B) (read : Bool) (x : A) → option_map f (then_some read x) ≡ (if read then Some (f x) else None)
+kept f true x = refl
+kept f false x = refl
+
 -- the rules that a content says, by the lists of the kinds
-pub rules_from : (j : Json) (l : Lists) (o : Option (Entries (List Json))) (c : Option (Entries (List ℕ))) (r s : Option (Entries (Unit {0}))) (u : Option (Entries (List Json)))
-    → Some l ≡ lists_in j → o ≡ entries_in asks_conditions l.override_rules → c ≡ entries_in asks_pattern l.content → r ≡ entries_in asks_nothing l.room → s ≡ entries_in asks_nothing l.sender → u ≡ entries_in asks_conditions l.underride
-    → whole o c r s u ≡ rules_in j
-rules_from j l o c r s u is first second third fourth fifth = rw (first, second, third, fourth, fifth) (ap (option_and_then rules_by) is)
+pub rules_from : (j : Json) (l : Lists) (old : Rules) (rules : RuleSet) (read : Bool) (o : Option RuleSet)
+    → old ≡ no_rules → Some l ≡ lists_in j → (if read then Some (rules_of rules) else None) ≡ add_lists l old → o ≡ then_some read rules
+    → option_map rules_of o ≡ rules_in j
+rules_from j l old rules read o none is made found = ap (option_map rules_of) found ∙ kept rules_of read rules ∙ made ∙ ap (add_lists l) none
+    ∙ (rw (adds_all asks_conditions l.override_rules, adds_all asks_pattern l.content, adds_all asks_nothing l.room, adds_all asks_nothing l.sender, adds_all asks_conditions l.underride)
+    (ap (option_and_then rules_by) is))

@@ -1,7 +1,7 @@
 -- The default rules of a user (Client-Server API, Push rules, Predefined Rules), kind by kind.
 use Rattle.std.specs.Prelude.{ℕ, ◌==◌, true, List, [], ◌∷◌, map, codes}
 use Rattle.std.specs.List.{after_first, before_first}
-use Rattle.indexmap.specs.IndexMap.{insert_all}
+use Rattle.indexmap.specs.IndexMap.{insert_all, insert_entry}
 use Rattle.mx_json.specs.declared.value.Json.{Json}
 use Rattle.mx_rules.specs.Builtins.{actions_of, conditions_of, does, id_of, is_on}
 use Rattle.mx_rules.specs.Edits.{Entries, is_id}
@@ -29,6 +29,10 @@ underrides = builtins.Call ∷ builtins.RoomOneToOne ∷ builtins.Message ∷ []
 abbrev pub entries_by : List ℕ → List Builtin → Entries (List Json)
 entries_by user bs = insert_all is_id [] (map (default_entry user) bs)
 
+-- the default rules of a list among other rules
+abbrev pub added : List ℕ → List Builtin → Entries (List Json) → Entries (List Json)
+added user bs es = insert_all is_id es (map (default_entry user) bs)
+
 -- the part of a user id between the at sign (64) and the first colon (58)
 abbrev pub localpart : List ℕ → List ℕ
 localpart user = after_first (λ b. b == 64) (before_first (λ b. b == 58) user)
@@ -43,4 +47,14 @@ default_rules user = record {
   room = [];
   sender = [];
   underride = entries_by user underrides;
+}
+
+-- the default rules of a user among other rules
+abbrev pub with_defaults : List ℕ → Rules → Rules
+with_defaults user rs = record {
+  override_rules = added user overrides rs.override_rules;
+  content = insert_entry is_id rs.content (codes ".m.rule.contains_user_name") (name_rule user);
+  room = rs.room;
+  sender = rs.sender;
+  underride = added user underrides rs.underride;
 }

@@ -12,6 +12,7 @@ use Rattle.mx_rules.specs.Bodies.{items_of}
 use Rattle.mx_rules.specs.Forms.{are_actions}
 use Rattle.mx_rules.specs.declared.fault.RuleFault.{RuleFault}
 use Rattle.mx_rules.specs.declared.fault.RuleFault.TheVariants as faults
+use Rattle.mx_rules.specs.declared.fault.Side.{Side}
 use Rattle.mx_rules.specs.declared.fault.Side.TheVariants as sides
 use Rattle.mx_rules.specs.declared.rule.Rule.{Rule}
 
@@ -57,6 +58,15 @@ module _ {T : Type 0} where
   abbrev pub put_behind : List ℕ → Rule T → List ℕ → Entries T → Entries T
   put_behind id r neighbour es = if is_id neighbour id then insert_entry is_id es id r
       else insert (without id es) (behind_id neighbour (without id es)) (id, r)
+
+  -- how the code puts a rule beside a neighbour
+  abbrev pub place_beside : Side → List ℕ → Entries T → ℕ
+  place_beside sides.Before neighbour es = before_id neighbour es
+  place_beside sides.After neighbour es = behind_id neighbour es
+
+  abbrev pub put_beside : Side → List ℕ → Rule T → List ℕ → Entries T → Entries T
+  put_beside side id r neighbour es = if is_id neighbour id then insert_entry is_id es id r
+      else insert (without id es) (place_beside side neighbour (without id es)) (id, r)
 
   -- without neighbours a rule keeps its place, and a new one goes first
   abbrev pub put_unplaced : List ℕ → Rule T → Entries T → Entries T

@@ -145,6 +145,15 @@ rules_by l = whole
     (entries_in asks_nothing l.sender)
     (entries_in asks_conditions l.underride)
 
+-- how the code reads them: the rules of each list behind those of its kind
+abbrev pub add_lists : Lists → Rules → Option Rules
+add_lists l rs = whole
+    (add_all asks_conditions l.override_rules rs.override_rules)
+    (add_all asks_pattern l.content rs.content)
+    (add_all asks_nothing l.room rs.room)
+    (add_all asks_nothing l.sender rs.sender)
+    (add_all asks_conditions l.underride rs.underride)
+
 -- the rules that a content says
 abbrev pub rules_in : Json → Option Rules
 rules_in j = option_and_then rules_by (lists_in j)

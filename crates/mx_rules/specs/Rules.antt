@@ -28,6 +28,9 @@ rules_of s = record {
   underride = s.underride.entries;
 }
 
+abbrev pub no_rules : Rules
+no_rules = record { override_rules = []; content = []; room = []; sender = []; underride = [] }
+
 -- a change of the rules of each kind
 abbrev pub on_kind : Kind → ((T : Type 0) → Entries T → Entries T) → Rules → Rules
 on_kind kinds.Override f rs = record rs { override_rules = f (List Json) rs.override_rules }

@@ -24,6 +24,14 @@ plain_members id r =
     ∷ member (codes "rule_id") (json.Text id)
     ∷ []
 
+-- what every rule's object has, set among members
+abbrev pub with_plain : {T : Type 0} → List ℕ → Rule T → List (Member Json) → List (Member Json)
+with_plain id r ms =
+    with_member (codes "rule_id") (json.Text id)
+    (with_member (codes "enabled") (json.Bool r.enabled)
+    (with_member (codes "default") (json.Bool r.default)
+    (with_member (codes "actions") (json.List r.actions) ms)))
+
 -- the object of a rule, with what the rule asks among its members
 abbrev pub entry_json : {T : Type 0} → (T → List (Member Json) → List (Member Json)) → List ℕ × Rule T → Json
 entry_json asks e = json.Object (asks e.1.test (plain_members e.0 e.1))
@@ -49,6 +57,15 @@ kinds_json rs = json.Object (
     ∷ member (codes "sender") (list_json with_nothing rs.sender)
     ∷ member (codes "underride") (list_json with_conditions rs.underride)
     ∷ [])
+
+-- the list of the rules of each kind, set among members
+abbrev pub with_kinds : Rules → List (Member Json) → List (Member Json)
+with_kinds rs ms =
+    with_member (codes "underride") (list_json with_conditions rs.underride)
+    (with_member (codes "sender") (list_json with_nothing rs.sender)
+    (with_member (codes "room") (list_json with_nothing rs.room)
+    (with_member (codes "override") (list_json with_conditions rs.override_rules)
+    (with_member (codes "content") (list_json with_pattern rs.content) ms))))
 
 -- the content of `m.push_rules`
 abbrev pub content_of : Rules → Json

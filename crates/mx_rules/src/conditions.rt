@@ -1,5 +1,5 @@
 //! The conditions and actions of the default rules.
-ghost use Rattle.std.specs.Prelude.{◌≡◌, IfOk, OnOk, [], ◌∷◌};
+ghost use Rattle.std.specs.Prelude.{◌≡◌, IfOk, OnOk, [], ◌∷◌, ◌++◌};
 ghost use Rattle.mx_json.specs.Keys.{with_member};
 ghost use Rattle.mx_json.specs.declared.value.Json.TheVariants as json;
 ghost use Rattle.mx_rules.specs.declared.builtin.Builtin.TheVariants as builtins;
@@ -16,36 +16,43 @@ impl Builtin {
     pub(crate) fn conditions(self, alloc: Global, user: &UserId) -> Result<Seq<Json>, Memory>
         ensures { IfOk result (λ js. js ≡ conditions_of user.now self) }
     {
+        let mut all = Seq::new(alloc);
+        self.push_conditions(alloc, user.as_str(), &mut all)?;
+        Ok(all)
+    }
+
+    /// Puts the conditions of the rule for a user at the end of a list.
+    fn push_conditions(self, alloc: Global, user: &str, all: &mut Seq<Json>) -> Result<(), Memory>
+        ensures { OnOk result (all.new ≡ all.old ++ conditions_of user.now self) }
+    {
         let of_type = "type";
         match self {
-            Builtin::Master => Ok(Seq::new(alloc)),
-            Builtin::SuppressNotices => {
-                one(alloc, event_match(alloc, "content.msgtype", "m.notice")?)
+            Builtin::Master => Ok(()),
+            Builtin::SuppressNotices => push_match(alloc, all, "content.msgtype", "m.notice"),
+            Builtin::InviteForMe => push_invitation(alloc, all, user),
+            Builtin::MemberEvent => push_match(alloc, all, of_type, "m.room.member"),
+            Builtin::IsUserMention => all.push(mentions(alloc, user)?),
+            Builtin::ContainsDisplayName => all.push(display_name(alloc)?),
+            Builtin::IsRoomMention => {
+                all.push(mentions_room(alloc)?)?;
+                push_permission(alloc, all)
             }
-            Builtin::InviteForMe => invitation(alloc, user.as_str()),
-            Builtin::MemberEvent => one(alloc, event_match(alloc, of_type, "m.room.member")?),
-            Builtin::IsUserMention => one(alloc, mentions(alloc, user.as_str())?),
-            Builtin::ContainsDisplayName => one(alloc, display_name(alloc)?),
-            Builtin::IsRoomMention => two(alloc, mentions_room(alloc)?, may_notify_room(alloc)?),
-            Builtin::RoomNotif => two(
-                alloc,
-                event_match(alloc, "content.body", "@room")?,
-                may_notify_room(alloc)?,
-            ),
-            Builtin::Tombstone => two(
-                alloc,
-                event_match(alloc, of_type, "m.room.tombstone")?,
-                event_match(alloc, "state_key", "")?,
-            ),
-            Builtin::Reaction => one(alloc, event_match(alloc, of_type, "m.reaction")?),
-            Builtin::SuppressEdits => one(alloc, is_edit(alloc)?),
-            Builtin::Call => one(alloc, event_match(alloc, of_type, "m.call.invite")?),
-            Builtin::RoomOneToOne => two(
-                alloc,
-                two_members(alloc)?,
-                event_match(alloc, of_type, "m.room.message")?,
-            ),
-            Builtin::Message => one(alloc, event_match(alloc, of_type, "m.room.message")?),
+            Builtin::RoomNotif => {
+                push_match(alloc, all, "content.body", "@room")?;
+                push_permission(alloc, all)
+            }
+            Builtin::Tombstone => {
+                push_match(alloc, all, of_type, "m.room.tombstone")?;
+                push_match(alloc, all, "state_key", "")
+            }
+            Builtin::Reaction => push_match(alloc, all, of_type, "m.reaction"),
+            Builtin::SuppressEdits => all.push(is_edit(alloc)?),
+            Builtin::Call => push_match(alloc, all, of_type, "m.call.invite"),
+            Builtin::RoomOneToOne => {
+                all.push(two_members(alloc)?)?;
+                push_match(alloc, all, of_type, "m.room.message")
+            }
+            Builtin::Message => push_match(alloc, all, of_type, "m.room.message"),
         }
     }
 }
@@ -55,44 +62,43 @@ impl Does {
     pub(crate) fn actions(self, alloc: Global) -> Result<Seq<Json>, Memory>
         ensures { IfOk result (λ js. js ≡ actions_of self) }
     {
+        let mut all = Seq::new(alloc);
+        self.push_actions(alloc, &mut all)?;
+        Ok(all)
+    }
+
+    /// Puts the actions at the end of a list.
+    fn push_actions(self, alloc: Global, all: &mut Seq<Json>) -> Result<(), Memory>
+        ensures { OnOk result (all.new ≡ all.old ++ actions_of self) }
+    {
         match self {
-            Does::Nothing => Ok(Seq::new(alloc)),
-            Does::Notify => one(alloc, notify(alloc)?),
-            Does::Sound => two(alloc, notify(alloc)?, sound(alloc, "default")?),
-            Does::Ring => two(alloc, notify(alloc)?, sound(alloc, "ring")?),
-            Does::Highlight => two(alloc, notify(alloc)?, highlight(alloc)?),
-            Does::SoundAndHighlight => three(
-                alloc,
-                notify(alloc)?,
-                sound(alloc, "default")?,
-                highlight(alloc)?,
-            ),
+            Does::Nothing => Ok(()),
+            Does::Notify => all.push(notify(alloc)?),
+            Does::Sound => push_sound(alloc, all, "default"),
+            Does::Ring => push_sound(alloc, all, "ring"),
+            Does::Highlight => push_highlight(alloc, all),
+            Does::SoundAndHighlight => {
+                push_sound(alloc, all, "default")?;
+                all.push(highlight(alloc)?)
+            }
         }
     }
 }
 
-fn one(alloc: Global, first: Json) -> Result<Seq<Json>, Memory>
-    ensures { IfOk result (λ js. js ≡ first ∷ []) }
+/// Puts at the end of a list that a user is notified with a sound.
+fn push_sound(alloc: Global, all: &mut Seq<Json>, name: &str) -> Result<(), Memory>
+    ensures { OnOk result (all.new ≡ all.old ++ notify ∷ sound name.now ∷ []) }
 {
-    let mut all = Seq::new(alloc);
-    all.push(first)?;
-    Ok(all)
+    all.push(notify(alloc)?)?;
+    all.push(sound(alloc, name)?)
 }
 
-fn two(alloc: Global, first: Json, second: Json) -> Result<Seq<Json>, Memory>
-    ensures { IfOk result (λ js. js ≡ first ∷ second ∷ []) }
+/// Puts at the end of a list that a user is notified and the event highlighted.
+fn push_highlight(alloc: Global, all: &mut Seq<Json>) -> Result<(), Memory>
+    ensures { OnOk result (all.new ≡ all.old ++ notify ∷ highlight ∷ []) }
 {
-    let mut all = one(alloc, first)?;
-    all.push(second)?;
-    Ok(all)
-}
-
-fn three(alloc: Global, first: Json, second: Json, third: Json) -> Result<Seq<Json>, Memory>
-    ensures { IfOk result (λ js. js ≡ first ∷ second ∷ third ∷ []) }
-{
-    let mut all = two(alloc, first, second)?;
-    all.push(third)?;
-    Ok(all)
+    all.push(notify(alloc)?)?;
+    all.push(highlight(alloc)?)
 }
 
 fn text_value(alloc: Global, value: &str) -> Result<Json, Memory>
@@ -125,15 +131,27 @@ fn event_match(alloc: Global, key: &str, pattern: &str) -> Result<Json, Memory>
     Ok(Json::Object(members))
 }
 
-fn invitation(alloc: Global, user: &str) -> Result<Seq<Json>, Memory>
-    ensures { IfOk result (λ js. js ≡ conditions_of user.now builtins.InviteForMe) }
+/// Puts a condition on the text at a dotted path at the end of a list.
+fn push_match(alloc: Global, all: &mut Seq<Json>, key: &str, pattern: &str) -> Result<(), Memory>
+    ensures { OnOk result (all.new ≡ all.old ++ event_match key.now pattern.now ∷ []) }
 {
-    three(
-        alloc,
-        event_match(alloc, "type", "m.room.member")?,
-        event_match(alloc, "content.membership", "invite")?,
-        event_match(alloc, "state_key", user)?,
-    )
+    all.push(event_match(alloc, key, pattern)?)
+}
+
+/// Puts the condition that the sender may notify the room at the end of a list.
+fn push_permission(alloc: Global, all: &mut Seq<Json>) -> Result<(), Memory>
+    ensures { OnOk result (all.new ≡ all.old ++ may_notify_room ∷ []) }
+{
+    all.push(may_notify_room(alloc)?)
+}
+
+/// Puts the conditions on an invitation of a user at the end of a list.
+fn push_invitation(alloc: Global, all: &mut Seq<Json>, user: &str) -> Result<(), Memory>
+    ensures { OnOk result (all.new ≡ all.old ++ conditions_of user.now builtins.InviteForMe) }
+{
+    push_match(alloc, all, "type", "m.room.member")?;
+    push_match(alloc, all, "content.membership", "invite")?;
+    push_match(alloc, all, "state_key", user)
 }
 
 #[tactic(auto, unfolding(crate::specs::Builtins::mentions))]

@@ -4,7 +4,7 @@ ghost use Rattle.std.specs.List.{insert};
 ghost use Rattle.std.specs.Cmp.Lexicographic.{pointwise};
 ghost use Rattle.std.specs.Map.{lookup};
 ghost use Rattle.indexmap.specs.IndexMap.{get, insert_entry, spare};
-ghost use Rattle.mx_rules.specs.Edits.{action_fault, before_id, behind_id, behind_master, has_neighbour, is_enabled, is_id, neighbour_fault, new_rule, no_rule, put_before, put_behind, put_in, put_unplaced, with_actions, with_enabled, without};
+ghost use Rattle.mx_rules.specs.Edits.{action_fault, before_id, behind_id, behind_master, has_neighbour, is_enabled, is_id, neighbour_fault, new_rule, no_rule, place_beside, put_beside, put_in, put_unplaced, with_actions, with_enabled, without};
 ghost use Rattle.mx_rules.specs.Bodies.{items_of};
 ghost use Rattle.mx_rules.specs.Judging.{Judges};
 
@@ -91,21 +91,23 @@ fn put_in<T: Drop>(
     ensures same { OnErr result (rules.new.entries ≡ rules.old.entries) }
 {
     match before {
-        Some(neighbour) => put_before(rules, id, rule, neighbour),
+        Some(neighbour) => put_beside(rules, id, rule, neighbour, Side::Before),
         None => match after {
-            Some(neighbour) => put_behind(rules, id, rule, neighbour),
+            Some(neighbour) => put_beside(rules, id, rule, neighbour, Side::After),
             None => put_unplaced(rules, id, rule),
         },
     }
 }
 
-fn put_before<T: Drop>(
+/// Puts a rule right before a neighbour or behind it; beside itself it keeps its place.
+fn put_beside<T: Drop>(
     rules: &mut IndexMap<Text, Rule<T>>,
     id: Text,
     rule: Rule<T>,
     neighbour: &Text,
+    side: Side,
 ) -> Result<(), Memory>
-    ensures ok { OnOk result (rules.new.entries ≡ put_before id rule neighbour.now rules.old.entries) }
+    ensures ok { OnOk result (rules.new.entries ≡ put_beside side id rule neighbour.now rules.old.entries) }
     ensures same { OnErr result (rules.new.entries ≡ rules.old.entries) }
 {
     if *neighbour == id {
@@ -113,26 +115,7 @@ fn put_before<T: Drop>(
     }
     rules.reserve(1)?;
     rules.shift_remove(&id);
-    let at = before_id(rules, neighbour);
-    insert_new(rules, at, id, rule);
-    Ok(())
-}
-
-fn put_behind<T: Drop>(
-    rules: &mut IndexMap<Text, Rule<T>>,
-    id: Text,
-    rule: Rule<T>,
-    neighbour: &Text,
-) -> Result<(), Memory>
-    ensures ok { OnOk result (rules.new.entries ≡ put_behind id rule neighbour.now rules.old.entries) }
-    ensures same { OnErr result (rules.new.entries ≡ rules.old.entries) }
-{
-    if *neighbour == id {
-        return set_rule(rules, id, rule);
-    }
-    rules.reserve(1)?;
-    rules.shift_remove(&id);
-    let at = behind_id(rules, neighbour);
+    let at = place_beside(rules, neighbour, side);
     insert_new(rules, at, id, rule);
     Ok(())
 }
@@ -175,6 +158,17 @@ fn insert_new<T: Drop>(rules: &mut IndexMap<Text, Rule<T>>, at: usize, id: Text,
     ensures { rules.new.entries ≡ insert rules.old.entries at (id, rule) }
 {
     rules.shift_insert(at, id, rule).unwrap();
+}
+
+/// Where a rule goes that is to stand beside a rule.
+fn place_beside<T>(rules: &IndexMap<Text, Rule<T>>, neighbour: &Text, side: Side) -> usize
+    ensures place { result ≡ place_beside side neighbour.now rules.now.entries }
+    ensures within { result ≤ length rules.now.entries }
+{
+    match side {
+        Side::Before => before_id(rules, neighbour),
+        Side::After => behind_id(rules, neighbour),
+    }
 }
 
 /// Where a rule stands, or the end.

@@ -1,6 +1,9 @@
 //! The default rules of a user.
-ghost use Rattle.std.specs.Prelude.{◌≡◌, IfOk, [], ◌∷◌, codes};
-ghost use Rattle.mx_rules.specs.Defaults.{default_rule, default_rules, entries_by, localpart, name_rule};
+ghost use Rattle.std.specs.Prelude.{◌≡◌, IfOk, OnOk, codes};
+ghost use Rattle.indexmap.specs.IndexMap.{insert_entry};
+ghost use Rattle.mx_rules.specs.Builtins.{id_of};
+ghost use Rattle.mx_rules.specs.Defaults.{added, default_rule, default_rules, localpart, name_rule, with_defaults};
+ghost use Rattle.mx_rules.specs.Edits.{is_id};
 ghost use Rattle.mx_rules.specs.Rules.{rules_of};
 
 use crate::builtin::{Builtin, Does, OVERRIDES, UNDERRIDES};
@@ -17,29 +20,45 @@ use std::alloc::Global;
 pub fn defaults(alloc: Global, user: &UserId) -> Result<RuleSet, Memory>
     ensures { IfOk result (λ s. rules_of s ≡ default_rules user.now) }
 {
-    Ok(RuleSet {
-        override_rules: rules_by(alloc, user, OVERRIDES.as_slice())?,
-        content: name_rules(alloc, user)?,
-        room: IndexMap::new(alloc),
-        sender: IndexMap::new(alloc),
-        underride: rules_by(alloc, user, UNDERRIDES.as_slice())?,
-    })
+    let mut rules = RuleSet::new(alloc);
+    put_defaults(alloc, user, &mut rules).and(Ok(rules))
 }
 
-/// The default rules of a list.
-fn rules_by(
+/// Puts the default rules among the rules of their kinds.
+fn put_defaults(alloc: Global, user: &UserId, rules: &mut RuleSet) -> Result<(), Memory>
+    ensures { OnOk result (rules_of rules.new ≡ with_defaults user.now (rules_of rules.old)) }
+{
+    put_builtins(alloc, user, OVERRIDES.as_slice(), &mut rules.override_rules)?;
+    put_name_rule(alloc, user, &mut rules.content)?;
+    put_builtins(alloc, user, UNDERRIDES.as_slice(), &mut rules.underride)
+}
+
+/// Puts the default rules of a list.
+fn put_builtins(
     alloc: Global,
     user: &UserId,
     builtins: &[Builtin],
-) -> Result<IndexMap<Text, Rule<Seq<Json>>>, Memory>
-    ensures { IfOk result (λ rules. rules.entries ≡ entries_by user.now builtins.now) }
+    rules: &mut IndexMap<Text, Rule<Seq<Json>>>,
+) -> Result<(), Memory>
+    ensures { OnOk result (rules.new.entries ≡ added user.now builtins.now rules.old.entries) }
 {
-    let mut rules = IndexMap::new(alloc);
     'builtins: for builtin in builtins {
-        let id = Text::from_string(String::from_str(alloc, builtin.id())?);
-        set_rule(&mut rules, id, default_rule(alloc, user, *builtin)?)?;
+        put_builtin(alloc, user, *builtin, rules)?;
     }
-    Ok(rules)
+    Ok(())
+}
+
+/// Puts a default rule.
+fn put_builtin(
+    alloc: Global,
+    user: &UserId,
+    builtin: Builtin,
+    rules: &mut IndexMap<Text, Rule<Seq<Json>>>,
+) -> Result<(), Memory>
+    ensures { OnOk result (rules.new.entries ≡ insert_entry is_id rules.old.entries (id_of builtin) (default_rule user.now builtin)) }
+{
+    let id = Text::from_string(String::from_str(alloc, builtin.id())?);
+    set_rule(rules, id, default_rule(alloc, user, builtin)?)
 }
 
 fn default_rule(alloc: Global, user: &UserId, builtin: Builtin) -> Result<Rule<Seq<Json>>, Memory>
@@ -53,14 +72,16 @@ fn default_rule(alloc: Global, user: &UserId, builtin: Builtin) -> Result<Rule<S
     })
 }
 
-/// The one default rule with a pattern.
-fn name_rules(alloc: Global, user: &UserId) -> Result<IndexMap<Text, Rule<Text>>, Memory>
-    ensures { IfOk result (λ rules. rules.entries ≡ (codes ".m.rule.contains_user_name", name_rule user.now) ∷ []) }
+/// Puts the one default rule with a pattern.
+fn put_name_rule(
+    alloc: Global,
+    user: &UserId,
+    rules: &mut IndexMap<Text, Rule<Text>>,
+) -> Result<(), Memory>
+    ensures { OnOk result (rules.new.entries ≡ insert_entry is_id rules.old.entries (codes ".m.rule.contains_user_name") (name_rule user.now)) }
 {
     let id = Text::from_string(String::from_str(alloc, ".m.rule.contains_user_name")?);
-    let mut rules = IndexMap::new(alloc);
-    set_rule(&mut rules, id, name_rule(alloc, user)?)?;
-    Ok(rules)
+    set_rule(rules, id, name_rule(alloc, user)?)
 }
 
 fn name_rule(alloc: Global, user: &UserId) -> Result<Rule<Text>, Memory>

@@ -1,12 +1,12 @@
 //! The push rules that their JSON says.
-ghost use Rattle.std.specs.Prelude.{◌≡◌, IfOk, OnOk, option_map};
+ghost use Rattle.std.specs.Prelude.{◌≡◌, IfOk, OnOk, None, Some, if◌then◌else◌, option_map};
 ghost use Rattle.indexmap.specs.IndexMap.{insert_entry};
 ghost use Rattle.mx_rules.specs.Edits.{is_id};
-ghost use Rattle.mx_rules.specs.Reading.{add_all, entries_in, entry_in, lists_by, lists_in, list_named, named, object_of, rule_from, rules_in, whole};
+ghost use Rattle.mx_rules.specs.Reading.{add_all, add_lists, entry_in, lists_by, lists_in, named, object_of, rule_from, rules_in};
 ghost use Rattle.mx_rules.specs.Rules.{rules_of};
 
 use crate::edits::set_rule;
-use crate::rule::{CommonFields, Rule, Test, named};
+use crate::rule::{CommonFields, Rule, Test, list_named, named};
 use crate::rule_set::RuleSet;
 use indexmap::IndexMap;
 use mx_ids::{Copied, Memory, Seq, Text};
@@ -16,11 +16,11 @@ use std::alloc::Global;
 /// The lists of the rules of each kind.
 #[derive(Clone, Copy)]
 struct Lists<'a> {
-    content: &'a [Json],
-    override_rules: &'a [Json],
-    room: &'a [Json],
-    sender: &'a [Json],
-    underride: &'a [Json],
+    content: &'a Seq<Json>,
+    override_rules: &'a Seq<Json>,
+    room: &'a Seq<Json>,
+    sender: &'a Seq<Json>,
+    underride: &'a Seq<Json>,
 }
 
 impl RuleSet {
@@ -34,12 +34,9 @@ impl RuleSet {
         let Some(lists) = lists_in(json) else {
             return Ok(None);
         };
-        let override_rules = entries_in(alloc, lists.override_rules)?;
-        let content = entries_in(alloc, lists.content)?;
-        let room = entries_in(alloc, lists.room)?;
-        let sender = entries_in(alloc, lists.sender)?;
-        let underride = entries_in(alloc, lists.underride)?;
-        Ok(whole(override_rules, content, room, sender, underride))
+        let mut rules = RuleSet::new(alloc);
+        let read = add_lists(alloc, lists, &mut rules)?;
+        Ok(read.then_some(rules))
     }
 }
 
@@ -59,41 +56,52 @@ fn lists_by(kinds: &[Member<Json>]) -> Option<Lists<'_>>
     let [content, overrides, room, sender, underride] = kinds else {
         return None;
     };
+    let ((((content, override_rules), room), sender), underride) = list_named(content, "content")
+        .zip(list_named(overrides, "override"))
+        .zip(list_named(room, "room"))
+        .zip(list_named(sender, "sender"))
+        .zip(list_named(underride, "underride"))?;
     Some(Lists {
-        content: list_named(content, "content")?,
-        override_rules: list_named(overrides, "override")?,
-        room: list_named(room, "room")?,
-        sender: list_named(sender, "sender")?,
-        underride: list_named(underride, "underride")?,
+        content,
+        override_rules,
+        room,
+        sender,
+        underride,
     })
 }
 
-/// The items of a list at a member that has the key.
-fn list_named<'a>(member: &'a Member<Json>, key: &str) -> Option<&'a [Json]>
-    ensures { option_map (λ js. js.now) result ≡ list_named key.now member.now }
+/// Puts the rules of the lists behind those of their kinds, and says whether each list could be read.
+fn add_lists(alloc: Global, lists: Lists<'_>, rules: &mut RuleSet) -> Result<bool, Memory>
+    ensures { IfOk result (λ read. (if read then Some (rules_of rules.new) else None) ≡ add_lists (record { content = lists.entry.content.now; override_rules = lists.entry.override_rules.now; room = lists.entry.room.now; sender = lists.entry.sender.now; underride = lists.entry.underride.now }) (rules_of rules.old)) }
 {
-    Some(named(member, key)?.as_list()?.as_slice())
+    Ok(
+        add_all(alloc, lists.override_rules, &mut rules.override_rules)?
+            && add_all(alloc, lists.content, &mut rules.content)?
+            && add_all(alloc, lists.room, &mut rules.room)?
+            && add_all(alloc, lists.sender, &mut rules.sender)?
+            && add_all(alloc, lists.underride, &mut rules.underride)?,
+    )
 }
 
-/// The rules of a list; `None` where an item isn't of the form, or an id stands twice.
-#[tactic(auto, using(crate::proofs::Readings::adds_all))]
-fn entries_in<T: Test + Copied>(
+/// Puts the rules of a list behind those that are there, and says whether the list could be read: each item is of the form,
+/// and has another id than all before it.
+fn add_all<T: Test + Copied>(
     alloc: Global,
-    items: &[Json],
-) -> Result<Option<IndexMap<Text, Rule<T>>>, Memory>
-    ensures { IfOk result (λ o. option_map (λ m. m.entries) o ≡ entries_in T.shown items.now) }
+    items: &Seq<Json>,
+    rules: &mut IndexMap<Text, Rule<T>>,
+) -> Result<bool, Memory>
+    ensures { IfOk result (λ read. (if read then Some rules.new.entries else None) ≡ add_all T.shown items.now rules.old.entries) }
 {
-    let mut rules = IndexMap::new(alloc);
-    'items: for item in items {
+    'items: for item in items.as_slice() {
         let Some((fields, test)) = entry_in::<T>(item) else {
-            return Ok(None);
+            return Ok(false);
         };
         if rules.contains_key(fields.id) {
-            return Ok(None);
+            return Ok(false);
         }
-        add(alloc, &mut rules, fields, test)?;
+        add(alloc, rules, fields, test)?;
     }
-    Ok(Some(rules))
+    Ok(true)
 }
 
 /// What the object of a rule says.
@@ -101,33 +109,6 @@ fn entry_in<T: Test>(item: &Json) -> Option<(CommonFields<'_>, &T)>
     ensures { option_map (λ p. rule_from p.0.actions.now p.0.default p.0.enabled p.0.id.now p.1.now) result ≡ entry_in T.shown item.now }
 {
     T::find(item.as_object()?.as_slice())
-}
-
-/// The rules of all kinds, where there are rules of each.
-fn whole(
-    override_rules: Option<IndexMap<Text, Rule<Seq<Json>>>>,
-    content: Option<IndexMap<Text, Rule<Text>>>,
-    room: Option<IndexMap<Text, Rule<()>>>,
-    sender: Option<IndexMap<Text, Rule<()>>>,
-    underride: Option<IndexMap<Text, Rule<Seq<Json>>>>,
-) -> Option<RuleSet>
-    ensures { option_map rules_of result ≡ whole (option_map (λ m. m.entries) override_rules) (option_map (λ m. m.entries) content) (option_map (λ m. m.entries) room) (option_map (λ m. m.entries) sender) (option_map (λ m. m.entries) underride) }
-{
-    match override_rules
-        .zip(content)
-        .zip(room)
-        .zip(sender)
-        .zip(underride)
-    {
-        Some(((((override_rules, content), room), sender), underride)) => Some(RuleSet {
-            override_rules,
-            content,
-            room,
-            sender,
-            underride,
-        }),
-        None => None,
-    }
 }
 
 /// Puts a copy of the rule last.

@@ -2,7 +2,7 @@
 ghost use Rattle.std.specs.Prelude.{◌≡◌, ℕ, IfOk, OnOk, List, Option, option_map};
 ghost use Rattle.mx_json.specs.declared.members.Member.{Member as MemberOf};
 ghost use Rattle.mx_json.specs.declared.value.Json.{Json as JsonValue};
-ghost use Rattle.mx_rules.specs.Reading.{asks_conditions, asks_nothing, asks_pattern, bare_by, bare_from, named, rule_from};
+ghost use Rattle.mx_rules.specs.Reading.{asks_conditions, asks_nothing, asks_pattern, bare_by, bare_from, bool_named, list_named, named, rule_from, text_named};
 ghost use Rattle.mx_rules.specs.declared.rule.Rule.{Rule as RuleOf};
 ghost use Rattle.mx_rules.specs.Rules.{conditions_of, pattern_of};
 ghost use Rattle.mx_rules.specs.Writing.{with_conditions, with_nothing, with_pattern};
@@ -76,12 +76,37 @@ fn common_fields<'a>(
 ) -> Option<CommonFields<'a>>
     ensures { option_map (λ p. bare_from p.actions.now p.default p.enabled p.id.now) result ≡ bare_by actions.now default.now enabled.now id.now }
 {
+    let (((actions, default), enabled), id) = list_named(actions, "actions")
+        .zip(bool_named(default, "default"))
+        .zip(bool_named(enabled, "enabled"))
+        .zip(text_named(id, "rule_id"))?;
     Some(CommonFields {
-        actions: named(actions, "actions")?.as_list()?,
-        default: named(default, "default")?.as_bool()?,
-        enabled: named(enabled, "enabled")?.as_bool()?,
-        id: named(id, "rule_id")?.as_text()?,
+        actions,
+        default,
+        enabled,
+        id,
     })
+}
+
+/// The list of a member that has the key.
+pub(crate) fn list_named<'a>(member: &'a Member<Json>, key: &str) -> Option<&'a Seq<Json>>
+    ensures { option_map (λ js. js.now) result ≡ list_named key.now member.now }
+{
+    named(member, key)?.as_list()
+}
+
+/// The truth value of a member that has the key.
+fn bool_named(member: &Member<Json>, key: &str) -> Option<bool>
+    ensures { result ≡ bool_named key.now member.now }
+{
+    named(member, key)?.as_bool()
+}
+
+/// The text of a member that has the key.
+fn text_named<'a>(member: &'a Member<Json>, key: &str) -> Option<&'a Text>
+    ensures { option_map (λ t. t.now) result ≡ text_named key.now member.now }
+{
+    named(member, key)?.as_text()
 }
 
 /// The value of a member that has the key.
@@ -115,8 +140,7 @@ impl Test for Seq<Json> {
         let [actions, conditions, default, enabled, id] = members else {
             return None;
         };
-        let fields = common_fields(actions, default, enabled, id)?;
-        Some((fields, named(conditions, "conditions")?.as_list()?))
+        common_fields(actions, default, enabled, id).zip(list_named(conditions, "conditions"))
     }
 }
 
@@ -140,8 +164,7 @@ impl Test for Text {
         let [actions, default, enabled, pattern, id] = members else {
             return None;
         };
-        let fields = common_fields(actions, default, enabled, id)?;
-        Some((fields, named(pattern, "pattern")?.as_text()?))
+        common_fields(actions, default, enabled, id).zip(text_named(pattern, "pattern"))
     }
 }
 

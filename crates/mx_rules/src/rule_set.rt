@@ -1,7 +1,7 @@
 //! The push rules of a user, and their changes.
 ghost use Rattle.std.specs.Prelude.{◌≡◌, OnOk, OnErr, option_map};
 ghost use Rattle.mx_rules.specs.Judging.{Judges};
-ghost use Rattle.mx_rules.specs.Rules.{acted, actions_fault, enabled, is_default_id, no_rule_in, put, put_fault, removed, remove_fault, rules_of};
+ghost use Rattle.mx_rules.specs.Rules.{acted, actions_fault, enabled, is_default_id, no_rules, no_rule_in, put, put_fault, removed, remove_fault, rules_of};
 
 use crate::edits::{act, enable, put_rule, take_away};
 use crate::fault::RuleFault;
@@ -24,6 +24,19 @@ pub struct RuleSet {
 }
 
 impl RuleSet {
+    /// No rules. Takes no memory.
+    pub(crate) fn new(alloc: Global) -> RuleSet
+        ensures { rules_of result ≡ no_rules }
+    {
+        RuleSet {
+            override_rules: IndexMap::new(alloc),
+            content: IndexMap::new(alloc),
+            room: IndexMap::new(alloc),
+            sender: IndexMap::new(alloc),
+            underride: IndexMap::new(alloc),
+        }
+    }
+
     /// Puts a user's rule (`PUT /pushrules/global/{kind}/{ruleId}`). A new one goes first in its kind, behind
     /// `.m.rule.master` where that stands first, or right before or behind a neighbour; with both, `before` decides. One that
     /// is there is replaced, enabled as it was; without neighbours, and beside itself, it keeps its place.

@@ -1,8 +1,8 @@
 //! The JSON of push rules.
-ghost use Rattle.std.specs.Prelude.{◌≡◌, IfOk, OnOk, List, map, codes};
+ghost use Rattle.std.specs.Prelude.{◌≡◌, IfOk, OnOk, List, ◌++◌, map, codes};
 ghost use Rattle.mx_json.specs.Keys.{with_member};
 ghost use Rattle.mx_rules.specs.Rules.{rules_of};
-ghost use Rattle.mx_rules.specs.Writing.{content_of, entry_json, kinds_json, list_json, single};
+ghost use Rattle.mx_rules.specs.Writing.{content_of, entry_json, kinds_json, list_json, single, with_kinds, with_plain};
 
 use crate::rule::{Rule, Test};
 use crate::rule_set::RuleSet;
@@ -28,32 +28,31 @@ pub fn kinds_json(alloc: Global, rules: &RuleSet) -> Result<Json, Memory>
     ensures { IfOk result (λ j. j ≡ kinds_json (rules_of rules.now)) }
 {
     let mut kinds = Members::new(alloc);
-    put(
-        alloc,
-        &mut kinds,
-        "content",
-        list_json(alloc, &rules.content)?,
-    )?;
-    put(
-        alloc,
-        &mut kinds,
-        "override",
-        list_json(alloc, &rules.override_rules)?,
-    )?;
-    put(alloc, &mut kinds, "room", list_json(alloc, &rules.room)?)?;
-    put(
-        alloc,
-        &mut kinds,
-        "sender",
-        list_json(alloc, &rules.sender)?,
-    )?;
-    put(
-        alloc,
-        &mut kinds,
-        "underride",
-        list_json(alloc, &rules.underride)?,
-    )?;
+    put_kinds(alloc, &mut kinds, rules)?;
     Ok(Json::Object(kinds))
+}
+
+/// Sets the list of the rules of each kind.
+fn put_kinds(alloc: Global, kinds: &mut Members<Json>, rules: &RuleSet) -> Result<(), Memory>
+    ensures { OnOk result (kinds.new ≡ with_kinds (rules_of rules.now) kinds.old) }
+{
+    put_list(alloc, kinds, "content", &rules.content)?;
+    put_list(alloc, kinds, "override", &rules.override_rules)?;
+    put_list(alloc, kinds, "room", &rules.room)?;
+    put_list(alloc, kinds, "sender", &rules.sender)?;
+    put_list(alloc, kinds, "underride", &rules.underride)
+}
+
+/// Sets the list of the rules of a kind at a key.
+fn put_list<T: Test>(
+    alloc: Global,
+    kinds: &mut Members<Json>,
+    key: &str,
+    rules: &IndexMap<Text, Rule<T>>,
+) -> Result<(), Memory>
+    ensures { OnOk result (kinds.new ≡ with_member key.now (list_json T.asks rules.now.entries) kinds.old) }
+{
+    put(alloc, kinds, key, list_json(alloc, rules)?)
 }
 
 fn list_json<T: Test>(alloc: Global, rules: &IndexMap<Text, Rule<T>>) -> Result<Json, Memory>
@@ -69,10 +68,22 @@ fn entries_json<T: Test>(
     ensures { IfOk result (λ js. js ≡ map (entry_json T.asks) rules.now.entries) }
 {
     let mut all = Vec::with_capacity(alloc, rules.len())?;
+    push_entries(alloc, rules, &mut all)?;
+    Ok(Seq::from_vec(all))
+}
+
+/// Puts the objects of the rules at the end of a list.
+fn push_entries<T: Test>(
+    alloc: Global,
+    rules: &IndexMap<Text, Rule<T>>,
+    all: &mut Vec<Json>,
+) -> Result<(), Memory>
+    ensures { OnOk result (all.new.items ≡ all.old.items ++ map (entry_json T.asks) rules.now.entries) }
+{
     'rules: for (id, rule) in rules.iter() {
         all.push(entry_json(alloc, id, rule)?)?;
     }
-    Ok(Seq::from_vec(all))
+    Ok(())
 }
 
 /// The object of a rule of an id (Client-Server API, Push rules, `GET /pushrules/global/{kind}/{ruleId}`).
@@ -80,17 +91,29 @@ pub fn entry_json<T: Test>(alloc: Global, id: &Text, rule: &Rule<T>) -> Result<J
     ensures { IfOk result (λ j. j ≡ entry_json T.asks (id.now, rule.now)) }
 {
     let mut members = Members::new(alloc);
+    put_plain(alloc, &mut members, id, rule)?;
+    rule.test.write(alloc, &mut members)?;
+    Ok(Json::Object(members))
+}
+
+/// Sets what every rule's object has.
+fn put_plain<T>(
+    alloc: Global,
+    members: &mut Members<Json>,
+    id: &Text,
+    rule: &Rule<T>,
+) -> Result<(), Memory>
+    ensures { OnOk result (members.new ≡ with_plain id.now rule.now members.old) }
+{
     put(
         alloc,
-        &mut members,
+        members,
         "actions",
         Json::List(rule.actions.copy(alloc)?),
     )?;
-    put(alloc, &mut members, "default", Json::Bool(rule.default))?;
-    put(alloc, &mut members, "enabled", Json::Bool(rule.enabled))?;
-    put(alloc, &mut members, "rule_id", Json::Text(id.copy(alloc)?))?;
-    rule.test.write(alloc, &mut members)?;
-    Ok(Json::Object(members))
+    put(alloc, members, "default", Json::Bool(rule.default))?;
+    put(alloc, members, "enabled", Json::Bool(rule.enabled))?;
+    put(alloc, members, "rule_id", Json::Text(id.copy(alloc)?))
 }
 
 /// An object with one key.

@@ -1,6 +1,0 @@
-use Rattle.std.proofs.Common.{◌≡◌, drop}
-use Rattle.mx_rules.specs.Reading.{add_all, entries_in}
-use Rattle.mx_rules.proofs.reading.entries_in.Given as goal
-
-abbrev pub invariant-items : goal.invariant-items
-invariant-items g l = add_all g.T.Test.shown (drop l.item-index l.items) l.rules.entries ≡ entries_in g.T.Test.shown l.items
