@@ -11,7 +11,7 @@ ghost use Rattle.mx_sync.specs.declared.fault.SyncFault.TheVariants as faults;
 
 use crate::account_data::account_data;
 use crate::fault::SyncFault;
-use crate::rooms::{RoomLists, all_rooms};
+use crate::rooms::all_rooms;
 use crate::sync_ask::SyncAsk;
 use crate::sync_reply::Reply;
 use mx_ids::{Memory, Seq, SyncToken};
@@ -84,18 +84,20 @@ fn answer(
     requires behind { is_behind ask.now.since (fronts_of (lists_of snapshot.now)) ≡ true }
     ensures { IfOk result (λ r. r ≡ reply_of (lists_of snapshot.now) ask.now.user.now (asked ask.now)) }
 {
-    let RoomLists {
-        joined,
-        invited,
-        left,
-    } = all_rooms(alloc, snapshot, ask)?;
-    Ok(Reply {
-        next: next_token(ask, fronts),
-        joined: Seq::from_vec(joined),
-        invited: Seq::from_vec(invited),
-        left: Seq::from_vec(left),
-        account: account_data(alloc, snapshot, ask)?,
-    })
+    let account = account_data(alloc, snapshot, ask)?;
+    match all_rooms(alloc, snapshot, ask) {
+        Ok(lists) => Ok(Reply {
+            next: next_token(ask, fronts),
+            joined: Seq::from_vec(lists.joined),
+            invited: Seq::from_vec(lists.invited),
+            left: Seq::from_vec(lists.left),
+            account,
+        }),
+        Err(refused) => {
+            drop(account);
+            Err(refused)
+        }
+    }
 }
 
 /// The token of the reply: `b` is that of `since`, or the front of events.

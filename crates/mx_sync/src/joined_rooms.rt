@@ -1,6 +1,6 @@
 //! What a reply says of a room that the user is joined in.
 
-ghost use Rattle.std.specs.Prelude.{◌≡◌, [], true, Some, IfOk};
+ghost use Rattle.std.specs.Prelude.{◌≡◌, true, Some, IfOk};
 ghost use Rattle.mx_folding.specs.Parts.{is_cons};
 ghost use Rattle.mx_rest.specs.Rests.{heroes_if};
 ghost use Rattle.mx_sync.specs.Parts.{later_part, new_part};
@@ -96,34 +96,47 @@ fn news(alloc: Global, at: &RoomAsk<'_>, since: &SyncToken) -> Result<RoomReply,
         filter: at.ask.filter,
     };
     let change = change(alloc, &rest, since)?;
-    let none = Seq::new(alloc);
-    let part = more_part(alloc, at, since, heroes_of(&change.delta.summary, &none))?;
-    Ok(reply_of(at, part, change))
+    match part_beside(alloc, at, since, &change.delta.summary) {
+        Ok(part) => Ok(reply_of(at, part, change)),
+        Err(refused) => {
+            drop(change);
+            Err(refused)
+        }
+    }
+}
+
+/// The part of a room that the client holds, beside a summary.
+fn part_beside(
+    alloc: Global,
+    at: &RoomAsk<'_>,
+    since: &SyncToken,
+    summary: &Option<Summary>,
+) -> Result<RoomPart, Memory>
+    requires asked { IsAsked at.now }
+    requires is_since { at.now.ask.now.since ≡ Some since.now }
+    ensures { IfOk result (λ p. p ≡ later_part (lists_in at.now) (user_in at.now) (ask_in at.now) (heroes_if summary.now) at.now.room.now) }
+{
+    match summary {
+        Some(summary) => more_part(alloc, at, since, &summary.heroes),
+        None => more_part(alloc, at, since, &Seq::new(alloc)),
+    }
 }
 
 /// What is said of a room that the client holds, if there is something.
 fn reply_of(at: &RoomAsk<'_>, part: RoomPart, change: Change) -> RoomReply
     ensures { result ≡ way.news_of at.now.room.now part change.differs change.delta }
 {
-    if has_news(&part) || change.differs {
+    let Change { delta, differs } = change;
+    if has_news(&part) || differs {
         RoomReply::Joined(JoinedRoom {
             room: *at.room,
             part,
-            rest: RoomRest::Changed(change.delta),
+            rest: RoomRest::Changed(delta),
         })
     } else {
+        drop(part);
+        drop(delta);
         RoomReply::Nothing
-    }
-}
-
-/// The heroes of a summary, if it is sent.
-fn heroes_of<'a>(summary: &'a Option<Summary>, none: &'a Seq<Text>) -> &'a Seq<Text>
-    requires { none.now ≡ [] }
-    ensures { result.now ≡ heroes_if summary.now }
-{
-    match summary {
-        Some(summary) => &summary.heroes,
-        None => none,
     }
 }
 

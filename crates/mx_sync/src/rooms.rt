@@ -1,11 +1,12 @@
 //! What a reply says of all rooms of the user.
 
-ghost use Rattle.std.specs.Prelude.{◌≡◌, ◌++◌, true, filter_map, IfOk, OnOk};
+ghost use Rattle.std.specs.Prelude.{◌≡◌, ◌++◌, true, filter_map, map, IfOk, OnOk};
 ghost use Rattle.std.specs.Option.{option_copied, option_to_list};
 ghost use Rattle.mx_fold.specs.Lists.{fronts_of};
 ghost use Rattle.mx_fold.specs.Replies.{is_behind};
 ghost use Rattle.mx_rest.specs.Servers.{AreValid, lists_of};
 ghost use Rattle.mx_snapshot.specs.Events.{rooms_of};
+ghost use Rattle.mx_snapshot.specs.Looks.{own_now};
 ghost use Rattle.mx_view.specs.Readings as read;
 ghost use Rattle.mx_window.specs.Lasts.{last_of};
 ghost use Rattle.mx_sync.specs.Asks.{asked};
@@ -52,16 +53,58 @@ pub(crate) fn all_rooms(
 {
     let rooms = snapshot.events.rooms_of(alloc, ask.user.as_str())?;
     let touched = touched_rooms(alloc, snapshot, ask)?;
+    let lists = said_lists(alloc, snapshot, ask, &touched, &rooms);
+    drop(touched);
+    drop(rooms);
+    lists
+}
+
+/// What is said of each of the rooms.
+fn said_lists(
+    alloc: Global,
+    snapshot: &Snapshot,
+    ask: &SyncAsk<'_>,
+    touched: &BTreeSet<RoomId>,
+    rooms: &[(RoomId, &Event)],
+) -> Result<RoomLists, Memory>
+    requires valid { AreValid (lists_of snapshot.now) }
+    requires behind { is_behind ask.now.since (fronts_of (lists_of snapshot.now)) ≡ true }
+    requires touched { AreTouched touched.now ask.now.user.now (lists_of snapshot.now) ask.now.since }
+    requires rooms { map own_now rooms.now ≡ rooms_of ask.now.user.now snapshot.now.events }
+    ensures joined { IfOk result (λ r. r.joined.items ≡ filter_map joined_of (all_said (lists_of snapshot.now) ask.now.user.now (asked ask.now) (rooms_of ask.now.user.now snapshot.now.events))) }
+    ensures invited { IfOk result (λ r. r.invited.items ≡ filter_map invited_of (all_said (lists_of snapshot.now) ask.now.user.now (asked ask.now) (rooms_of ask.now.user.now snapshot.now.events))) }
+    ensures left { IfOk result (λ r. r.left.items ≡ filter_map left_of (all_said (lists_of snapshot.now) ask.now.user.now (asked ask.now) (rooms_of ask.now.user.now snapshot.now.events))) }
+{
     let mut lists = RoomLists {
         joined: Vec::new(alloc),
         invited: Vec::new(alloc),
         left: Vec::new(alloc),
     };
-    'rooms: for room in &rooms {
-        let said = said_of(alloc, snapshot, ask, &touched, &room.0)?;
-        add(&mut lists, said)?;
+    'rooms: for room in rooms {
+        add_room(alloc, snapshot, ask, touched, &room.0, &mut lists)?;
     }
     Ok(lists)
+}
+
+/// Adds what is said of a room.
+fn add_room(
+    alloc: Global,
+    snapshot: &Snapshot,
+    ask: &SyncAsk<'_>,
+    touched: &BTreeSet<RoomId>,
+    room: &RoomId,
+    lists: &mut RoomLists,
+) -> Result<(), Memory>
+    requires valid { AreValid (lists_of snapshot.now) }
+    requires behind { is_behind ask.now.since (fronts_of (lists_of snapshot.now)) ≡ true }
+    requires touched { AreTouched touched.now ask.now.user.now (lists_of snapshot.now) ask.now.since }
+    ensures joined { OnOk result (lists.new.joined.items ≡ lists.old.joined.items ++ option_to_list (joined_of (said_of (lists_of snapshot.now) ask.now.user.now (asked ask.now) room.now))) }
+    ensures invited { OnOk result (lists.new.invited.items ≡ lists.old.invited.items ++ option_to_list (invited_of (said_of (lists_of snapshot.now) ask.now.user.now (asked ask.now) room.now))) }
+    ensures left { OnOk result (lists.new.left.items ≡ lists.old.left.items ++ option_to_list (left_of (said_of (lists_of snapshot.now) ask.now.user.now (asked ask.now) room.now))) }
+{
+    let said = said_of(alloc, snapshot, ask, touched, room)?;
+    add(lists, said)?;
+    Ok(())
 }
 
 fn add(lists: &mut RoomLists, said: RoomReply) -> Result<(), Memory>
