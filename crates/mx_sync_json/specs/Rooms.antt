@@ -53,6 +53,14 @@ module _ (server : List ℕ) (device front : ℕ) where
       ∷ member (codes "prev_batch") (json.Text (page_text (record { at = part.cut; e = front })))
       ∷ [])
 
+  -- the members of a joined room up to its state
+  abbrev pub data_and_state : JoinedRoom → List (Member Json)
+  data_and_state r =
+      member (codes "account_data") (account_form (account_of r.rest))
+      ∷ member (codes "ephemeral") (ephemeral_form server (receipts_of r.rest))
+      ∷ member (codes "state") (state_form r.part)
+      ∷ []
+
   abbrev pub joined_form : JoinedRoom → Json
   joined_form r = json.Object (
       member (codes "account_data") (account_form (account_of r.rest))

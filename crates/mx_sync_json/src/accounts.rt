@@ -1,6 +1,7 @@
 //! Account data.
 
-ghost use Rattle.std.specs.Prelude.{◌≡◌, map, IfOk};
+ghost use Rattle.std.specs.Prelude.{◌≡◌, [], map, IfOk, OnOk};
+ghost use Rattle.mx_json.specs.declared.value.Json.TheVariants as json;
 ghost use Rattle.mx_sync_json.specs.Objects as form;
 
 use crate::members::{events_form, put};
@@ -30,9 +31,23 @@ fn pair_form(alloc: Global, kind: &Text, content: &Json) -> Result<Json, Memory>
 pub(crate) fn data_form(alloc: Global, kind: &str, content: Json) -> Result<Json, Memory>
     ensures { IfOk result (λ j. j ≡ form.data_form kind.now content) }
 {
-    let kind = Text::from_string(String::from_str(alloc, kind)?);
     let mut members = Members::new(alloc);
-    put(alloc, &mut members, "content", content)?;
-    put(alloc, &mut members, "type", Json::Text(kind))?;
+    put_data(alloc, &mut members, kind, content)?;
     Ok(Json::Object(members))
+}
+
+/// Puts the members of data of a type into an object that has none.
+fn put_data(
+    alloc: Global,
+    members: &mut Members<Json>,
+    kind: &str,
+    content: Json,
+) -> Result<(), Memory>
+    requires { members.old ≡ [] }
+    ensures { OnOk result (json.Object members.new ≡ form.data_form kind.now content) }
+{
+    put(alloc, members, "content", content)?;
+    let kind = Text::from_string(String::from_str(alloc, kind)?);
+    put(alloc, members, "type", Json::Text(kind))?;
+    Ok(())
 }

@@ -4,6 +4,7 @@ ghost use Rattle.std.specs.Prelude.{◌≡◌, [], fold, IfOk, OnOk};
 ghost use Rattle.std.specs.Option.{option_copied};
 ghost use Rattle.mx_ids.specs.Ids.{room_id_text};
 ghost use Rattle.mx_json.specs.Keys.{with_member};
+ghost use Rattle.mx_json.specs.declared.value.Json.TheVariants as json;
 ghost use Rattle.mx_sync_json.specs.Rooms as form;
 
 use crate::accounts::account_form;
@@ -84,20 +85,48 @@ fn set_room(
 fn joined_form(alloc: Global, to: &Reader<'_>, room: &JoinedRoom) -> Result<Json, Memory>
     ensures { IfOk result (λ j. j ≡ form.joined_form to.now.server.now to.now.device to.now.front room.now) }
 {
-    let account = account_form(alloc, account_of(&room.rest))?;
-    let ephemeral = ephemeral_form(alloc, to.server, receipts_of(&room.rest))?;
-    let state = state_form(alloc, to, &room.part)?;
-    let summary = summary_form(alloc, summary_of(&room.rest))?;
-    let timeline = timeline_form(alloc, to, &room.part)?;
-    let unread = counts_form(alloc, counts_of(&room.rest))?;
     let mut members = Members::new(alloc);
-    put(alloc, &mut members, "account_data", account)?;
-    put(alloc, &mut members, "ephemeral", ephemeral)?;
-    put(alloc, &mut members, "state", state)?;
-    put(alloc, &mut members, "summary", summary)?;
-    put(alloc, &mut members, "timeline", timeline)?;
-    put(alloc, &mut members, "unread_notifications", unread)?;
+    put_data_and_state(alloc, &mut members, to, room)?;
+    put_timeline_and_counts(alloc, &mut members, to, room)?;
     Ok(Json::Object(members))
+}
+
+/// Puts the account data, the receipts and the state of a joined room into an object that has no members.
+fn put_data_and_state(
+    alloc: Global,
+    members: &mut Members<Json>,
+    to: &Reader<'_>,
+    room: &JoinedRoom,
+) -> Result<(), Memory>
+    requires { members.old ≡ [] }
+    ensures { OnOk result (members.new ≡ form.data_and_state to.now.server.now to.now.device to.now.front room.now) }
+{
+    let account = account_form(alloc, account_of(&room.rest))?;
+    put(alloc, members, "account_data", account)?;
+    let ephemeral = ephemeral_form(alloc, to.server, receipts_of(&room.rest))?;
+    put(alloc, members, "ephemeral", ephemeral)?;
+    let state = state_form(alloc, to, &room.part)?;
+    put(alloc, members, "state", state)?;
+    Ok(())
+}
+
+/// Puts the summary, the timeline and the counts of a joined room behind its account data, receipts and state.
+fn put_timeline_and_counts(
+    alloc: Global,
+    members: &mut Members<Json>,
+    to: &Reader<'_>,
+    room: &JoinedRoom,
+) -> Result<(), Memory>
+    requires { members.old ≡ form.data_and_state to.now.server.now to.now.device to.now.front room.now }
+    ensures { OnOk result (json.Object members.new ≡ form.joined_form to.now.server.now to.now.device to.now.front room.now) }
+{
+    let summary = summary_form(alloc, summary_of(&room.rest))?;
+    put(alloc, members, "summary", summary)?;
+    let timeline = timeline_form(alloc, to, &room.part)?;
+    put(alloc, members, "timeline", timeline)?;
+    let unread = counts_form(alloc, counts_of(&room.rest))?;
+    put(alloc, members, "unread_notifications", unread)?;
+    Ok(())
 }
 
 fn receipts_of(rest: &RoomRest) -> &Seq<Receipt>

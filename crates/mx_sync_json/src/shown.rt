@@ -1,8 +1,9 @@
 //! Events of a room, as a device sees them.
 
-ghost use Rattle.std.specs.Prelude.{◌≡◌, [], map, unwrap_or, IfOk};
+ghost use Rattle.std.specs.Prelude.{◌≡◌, [], map, unwrap_or, IfOk, OnOk};
 ghost use Rattle.mx_ids.specs.Page.{page_text};
 ghost use Rattle.mx_ids.specs.declared.page_token.PageToken.{PageToken};
+ghost use Rattle.mx_json.specs.declared.value.Json.TheVariants as json;
 ghost use Rattle.mx_sync_json.specs.Rooms as form;
 
 use crate::members::{events_form, put};
@@ -80,16 +81,25 @@ pub(crate) fn stripped_form(alloc: Global, events: &Seq<Shown>) -> Result<Vec<Js
 fn bare_form(alloc: Global, event: &Event) -> Result<Json, Memory>
     ensures { IfOk result (λ j. j ≡ form.bare_form event.now) }
 {
-    let content = event.content.copy(alloc)?;
-    let sender = event.sender.as_text().copy(alloc)?;
-    let key = key_or_empty(alloc, event)?;
-    let kind = event.kind.copy(alloc)?;
     let mut members = Members::new(alloc);
-    put(alloc, &mut members, "content", content)?;
-    put(alloc, &mut members, "sender", Json::Text(sender))?;
-    put(alloc, &mut members, "state_key", Json::Text(key))?;
-    put(alloc, &mut members, "type", Json::Text(kind))?;
+    put_bare(alloc, &mut members, event)?;
     Ok(Json::Object(members))
+}
+
+/// Puts the members of an event of the stripped state into an object that has none.
+fn put_bare(alloc: Global, members: &mut Members<Json>, event: &Event) -> Result<(), Memory>
+    requires { members.old ≡ [] }
+    ensures { OnOk result (json.Object members.new ≡ form.bare_form event.now) }
+{
+    let content = event.content.copy(alloc)?;
+    put(alloc, members, "content", content)?;
+    let sender = event.sender.as_text().copy(alloc)?;
+    put(alloc, members, "sender", Json::Text(sender))?;
+    let key = key_or_empty(alloc, event)?;
+    put(alloc, members, "state_key", Json::Text(key))?;
+    let kind = event.kind.copy(alloc)?;
+    put(alloc, members, "type", Json::Text(kind))?;
+    Ok(())
 }
 
 fn key_or_empty(alloc: Global, event: &Event) -> Result<Text, Memory>

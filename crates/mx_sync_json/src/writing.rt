@@ -1,7 +1,8 @@
 //! The reply as a whole.
 
-ghost use Rattle.std.specs.Prelude.{◌≡◌, IfOk};
+ghost use Rattle.std.specs.Prelude.{◌≡◌, [], IfOk, OnOk};
 ghost use Rattle.mx_ids.specs.Sync.{sync_text};
+ghost use Rattle.mx_json.specs.declared.value.Json.TheVariants as json;
 ghost use Rattle.mx_sync_json.specs.Replies as form;
 
 use crate::accounts::account_form;
@@ -18,14 +19,29 @@ use std::alloc::Global;
 pub fn reply_form(alloc: Global, server: &str, device: u32, reply: &Reply) -> Result<Json, Memory>
     ensures { IfOk result (λ j. j ≡ form.reply_form server.now device reply.now) }
 {
-    let account = account_form(alloc, &reply.account)?;
-    let next_batch = token_text(alloc, &reply.next)?;
-    let rooms = rooms_form(alloc, server, device, reply)?;
     let mut members = Members::new(alloc);
-    put(alloc, &mut members, "account_data", account)?;
-    put(alloc, &mut members, "next_batch", Json::Text(next_batch))?;
-    put(alloc, &mut members, "rooms", rooms)?;
+    put_reply(alloc, &mut members, server, device, reply)?;
     Ok(Json::Object(members))
+}
+
+/// Puts the members of a reply into an object that has none.
+fn put_reply(
+    alloc: Global,
+    members: &mut Members<Json>,
+    server: &str,
+    device: u32,
+    reply: &Reply,
+) -> Result<(), Memory>
+    requires { members.old ≡ [] }
+    ensures { OnOk result (json.Object members.new ≡ form.reply_form server.now device reply.now) }
+{
+    let account = account_form(alloc, &reply.account)?;
+    put(alloc, members, "account_data", account)?;
+    let next_batch = token_text(alloc, &reply.next)?;
+    put(alloc, members, "next_batch", Json::Text(next_batch))?;
+    let rooms = rooms_form(alloc, server, device, reply)?;
+    put(alloc, members, "rooms", rooms)?;
+    Ok(())
 }
 
 fn token_text(alloc: Global, token: &SyncToken) -> Result<Text, Memory>
@@ -39,17 +55,32 @@ fn token_text(alloc: Global, token: &SyncToken) -> Result<Text, Memory>
 fn rooms_form(alloc: Global, server: &str, device: u32, reply: &Reply) -> Result<Json, Memory>
     ensures { IfOk result (λ j. j ≡ form.rooms_form server.now device reply.now) }
 {
+    let mut members = Members::new(alloc);
+    put_rooms(alloc, &mut members, server, device, reply)?;
+    Ok(Json::Object(members))
+}
+
+/// Puts the rooms by the user's membership into an object that has none.
+fn put_rooms(
+    alloc: Global,
+    members: &mut Members<Json>,
+    server: &str,
+    device: u32,
+    reply: &Reply,
+) -> Result<(), Memory>
+    requires { members.old ≡ [] }
+    ensures { OnOk result (json.Object members.new ≡ form.rooms_form server.now device reply.now) }
+{
     let to = Reader {
         server,
         device,
         front: reply.next.e,
     };
     let invited = invited_rooms(alloc, server, &reply.invited)?;
+    put(alloc, members, "invite", Json::Object(invited))?;
     let joined = joined_rooms(alloc, &to, &reply.joined)?;
+    put(alloc, members, "join", Json::Object(joined))?;
     let left = left_rooms(alloc, &to, &reply.left)?;
-    let mut members = Members::new(alloc);
-    put(alloc, &mut members, "invite", Json::Object(invited))?;
-    put(alloc, &mut members, "join", Json::Object(joined))?;
-    put(alloc, &mut members, "leave", Json::Object(left))?;
-    Ok(Json::Object(members))
+    put(alloc, members, "leave", Json::Object(left))?;
+    Ok(())
 }
