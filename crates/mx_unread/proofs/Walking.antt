@@ -101,7 +101,7 @@ module _ (mark front : ℕ) (events : List Event) (seen : List Sighted) where
 
   tallied_more : (old : Decider) (rules : Rules) (room : RoomId) (user : List ℕ) (red : Event → Bool) (i : ℕ) (s : Sighted) (said : Option Bool) (c new : Counts)
       → i < length seen → s ≡ get_or seen i s → Knows old rules room user (before_at room i)
-      → said ≡ judged (notifies (rules_of old.rules) (setting_in old s.event.now) s.event.now) old.user.now red (sighted s) → new ≡ added said c
+      → said ≡ judged (notifies (rules_of old.rules.now) (setting_in old s.event.now) s.event.now) old.user.now red (sighted s) → new ≡ added said c
       → tallied (says_of rules room user) user red (before_at room (i + 1)) new (all_sighted (drop (i + 1) seen))
       ≡ tallied (says_of rules room user) user red (before_at room i) c (all_sighted (drop i seen))
   tallied_more old rules room user red i s said c new low here knows said_is new_is =
@@ -122,16 +122,16 @@ module _ (mark front : ℕ) (events : List Event) (seen : List Sighted) where
   -- the walk of a decider has come to the index i: what the decider knows, what is counted, and their bounds
   abbrev pub HasWalked : Decider → ℕ → Decider → Counts → Type 0
   HasWalked first i d c =
-      Knows d (rules_of first.rules) first.room.now first.user.now (before_at first.room.now i)
-      × (tallied (says_of (rules_of first.rules) first.room.now first.user.now) first.user.now (is_found events front) (before_at first.room.now i) c (all_sighted (drop i seen))
-      ≡ tallied (says_of (rules_of first.rules) first.room.now first.user.now) first.user.now (is_found events front) (between position_of 0 mark (of_room first.room.now events)) no_counts (all_sighted seen))
+      Knows d (rules_of first.rules.now) first.room.now first.user.now (before_at first.room.now i)
+      × (tallied (says_of (rules_of first.rules.now) first.room.now first.user.now) first.user.now (is_found events front) (before_at first.room.now i) c (all_sighted (drop i seen))
+      ≡ tallied (says_of (rules_of first.rules.now) first.room.now first.user.now) first.user.now (is_found events front) (between position_of 0 mark (of_room first.room.now events)) no_counts (all_sighted seen))
       × (d.joined ≤ first.joined + i)
       × (c.notifications ≤ i)
       × (c.highlights ≤ i)
 
   pub walked_more : (first : Decider) (i : ℕ) (old new : Decider) (c d : Counts) (s : Sighted) (said : Option Bool) → stand_from position_of 1 events ≡ true → IsSeen first.room.now first.user.now
       → i < length seen → s ≡ get_or seen i s → HasWalked first i old c
-      → said ≡ judged (notifies (rules_of old.rules) (setting_in old s.event.now) s.event.now) old.user.now (is_found events front) (sighted s) → d ≡ added said c
+      → said ≡ judged (notifies (rules_of old.rules.now) (setting_in old s.event.now) s.event.now) old.user.now (is_found events front) (sighted s) → d ≡ added said c
       → TakesNext old new s.event.now (between position_of 0 (s.event.now.id.at - 1) (of_room old.room.now events))
       → HasWalked first (i + 1) new d
   walked_more first i old new c d s said placed is low here walked said_is d_is next =
@@ -143,8 +143,8 @@ module _ (mark front : ℕ) (events : List Event) (seen : List Sighted) where
       let old_joined : old.joined ≤ first.joined + i = walked.2 in
       let old_notifications : c.notifications ≤ i = walked.3 in
       let old_highlights : c.highlights ≤ i = walked.4 in (
-        taken_more old new (rules_of first.rules) first.room.now first.user.now i s is (room_ascends first.room.now events placed) low here walked.0 next,
-        tallied_more old (rules_of first.rules) first.room.now first.user.now (is_found events front) i s said c d low here walked.0 said_is d_is ∙ walked.1,
+        taken_more old new (rules_of first.rules.now) first.room.now first.user.now i s is (room_ascends first.room.now events placed) low here walked.0 next,
+        tallied_more old (rules_of first.rules.now) first.room.now first.user.now (is_found events front) i s said c d low here walked.0 said_is d_is ∙ walked.1,
         omega (arith, next.joined_is, joined, old_joined),
         omega (arith, notifications, old_notifications),
         omega (arith, highlights, old_highlights),
@@ -152,13 +152,13 @@ module _ (mark front : ℕ) (events : List Event) (seen : List Sighted) where
 
   -- the walk begins
   pub walked_none : (first : Decider) (c : Counts) → c ≡ no_counts
-      → Knows first (rules_of first.rules) first.room.now first.user.now (between position_of 0 mark (of_room first.room.now events)) → HasWalked first 0 first c
+      → Knows first (rules_of first.rules.now) first.room.now first.user.now (between position_of 0 mark (of_room first.room.now events)) → HasWalked first 0 first c
   walked_none first c none knows =
       let none_more : before_at first.room.now 0 ≡ between position_of 0 mark (of_room first.room.now events) = append-nil (between position_of 0 mark (of_room first.room.now events)) in
       let notifications : c.notifications ≡ 0 = ap (λ (n : Counts). n.notifications) none in
       let highlights : c.highlights ≡ 0 = ap (λ (n : Counts). n.highlights) none in (
-        subst (Knows first (rules_of first.rules) first.room.now first.user.now) (sym none_more) knows,
-        ap₂ (λ (b : List Event) (n : Counts). tallied (says_of (rules_of first.rules) first.room.now first.user.now) first.user.now (is_found events front) b n (all_sighted seen)) none_more none,
+        subst (Knows first (rules_of first.rules.now) first.room.now first.user.now) (sym none_more) knows,
+        ap₂ (λ (b : List Event) (n : Counts). tallied (says_of (rules_of first.rules.now) first.room.now first.user.now) first.user.now (is_found events front) b n (all_sighted seen)) none_more none,
         omega arith,
         omega (arith, notifications),
         omega (arith, highlights),
@@ -167,7 +167,7 @@ module _ (mark front : ℕ) (events : List Event) (seen : List Sighted) where
 -- ---- a decider of its own rules, room and user
 
 pub knows_own : (d : Decider) (rules : Rules) (room : RoomId) (user : List ℕ) (events : List Event) (mark : ℕ) → Knows d rules room user (between position_of 0 mark (of_room room events))
-    → Knows d (rules_of d.rules) d.room.now d.user.now (between position_of 0 mark (of_room d.room.now events))
+    → Knows d (rules_of d.rules.now) d.room.now d.user.now (between position_of 0 mark (of_room d.room.now events))
 knows_own d rules room user events mark knows =
     subst (λ r. Knows d r d.room.now d.user.now (between position_of 0 mark (of_room d.room.now events))) (sym knows.rules_are)
     (subst (λ r. Knows d rules r d.user.now (between position_of 0 mark (of_room r events))) (sym knows.room_is)
@@ -181,7 +181,7 @@ seen_own d rules room user before events w knows is =
 -- the walk counts what is unread
 pub counted : FirstsAreOfRoom → (d : Decider) (rules : Rules) (room : RoomId) (user : List ℕ) (before events : List Event) (w : Window) (c : Counts) → Knows d rules room user before
     → stand_from position_of 1 events ≡ true → ((r : RoomId) → IsValid (of_room r events)) → HasSeen user (of_room room events) w
-    → c ≡ tallied (says_of (rules_of d.rules) d.room.now d.user.now) d.user.now (is_found events w.front) (between position_of 0 w.mark (of_room d.room.now events)) no_counts (all_sighted w.seen.items)
+    → c ≡ tallied (says_of (rules_of d.rules.now) d.room.now d.user.now) d.user.now (is_found events w.front) (between position_of 0 w.mark (of_room d.room.now events)) no_counts (all_sighted w.seen.items)
     → c ≡ counts_by (says_of rules room user) user (of_room room events) w.front w.mark
 counted firsts d rules room user before events w c knows placed valid seen_is is =
     is

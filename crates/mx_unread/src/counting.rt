@@ -12,7 +12,7 @@ ghost use Rattle.mx_window.specs.Windows.{between, stand_from};
 ghost use Rattle.mx_event.specs.Shown.{position_of};
 ghost use Rattle.mx_unread.specs.Deciding.{Knows, setting_in};
 ghost use Rattle.mx_unread.specs.Tallies.{HasSeen, added, is_found, is_found_at, judged, may_count, no_counts, tallied};
-ghost use Rattle.mx_unread.specs.Unread.{counts_at, says_of};
+ghost use Rattle.mx_unread.specs.Unread.{counts_at, counts_by, rules_at, says_of};
 
 use crate::decider::Decider;
 use crate::stored_rules::rules_at;
@@ -20,6 +20,7 @@ use crate::unread_counts::Counts;
 use crate::window::{Window, unread_window};
 use mx_ids::{Memory, RoomId, SyncToken, UserId};
 use mx_push::Notify;
+use mx_rules::RuleSet;
 use mx_snapshot::{Events, Snapshot, first_redactions_are};
 use mx_visible::Sighted;
 use std::alloc::Global;
@@ -45,30 +46,69 @@ pub fn counts(
     requires valid { (r : rooms.RoomId) → IsValid (of_room r snapshot.now.events) }
     ensures { IfOk result (λ c. c ≡ counts_at room.now user.now snapshot.now.events snapshot.now.receipts snapshot.now.accounts at.now) }
 {
+    let window = unread_window(alloc, snapshot, room, user, at)?;
+    let counted = window_counts(alloc, snapshot, room, user, at, &window);
+    drop(window);
+    counted
+}
+
+/// The counts of a room at a token, by the window of what isn't read there.
+fn window_counts<'a>(
+    alloc: Global,
+    snapshot: &'a Snapshot,
+    room: &'a RoomId,
+    user: &'a UserId,
+    at: &SyncToken,
+    window: &Window<'a>,
+) -> Result<Counts, Memory>
+    requires valid { (r : rooms.RoomId) → IsValid (of_room r snapshot.now.events) }
+    requires seen { HasSeen user.now (of_room room.now snapshot.now.events) window.now }
+    ensures { IfOk result (λ c. c ≡ counts_by (says_of (rules_at user.now at.now.a snapshot.now.accounts) room.now user.now) user.now (of_room room.now snapshot.now.events) window.now.front window.now.mark) }
+{
     let _front = snapshot.events.front();
     first_redactions_are();
-    let window = unread_window(alloc, snapshot, room, user, at)?;
-    if !any_may_count(&snapshot.events, user, &window) {
+    if !any_may_count(&snapshot.events, user, window) {
         return Ok(NONE);
     }
     let rules = rules_at(alloc, &snapshot.accounts, user, at.a)?;
-    let mut decider = Decider::new(alloc, rules, &snapshot.events, user, room, window.mark)?;
-    let made = walk(alloc, &snapshot.events, &mut decider, &window)?;
-    Ok(made)
+    let counted = ruled_counts(alloc, &snapshot.events, &rules, room, user, window);
+    drop(rules);
+    counted
+}
+
+/// The counts of a room by a user's rules and the window of what isn't read there.
+fn ruled_counts<'a>(
+    alloc: Global,
+    events: &'a Events,
+    rules: &RuleSet,
+    room: &'a RoomId,
+    user: &'a UserId,
+    window: &Window<'a>,
+) -> Result<Counts, Memory>
+    requires valid { (r : rooms.RoomId) → IsValid (of_room r events.now) }
+    requires seen { HasSeen user.now (of_room room.now events.now) window.now }
+    ensures { IfOk result (λ c. c ≡ counts_by (says_of (rules_of rules.now) room.now user.now) user.now (of_room room.now events.now) window.now.front window.now.mark) }
+{
+    let _front = events.front();
+    first_redactions_are();
+    let mut decider = Decider::new(alloc, rules, events, user, room, window.mark)?;
+    let counted = walk(alloc, events, &mut decider, window);
+    drop(decider);
+    counted
 }
 
 /// Counts the events of a window; the decider stands at its mark.
 fn walk<'a>(
     alloc: Global,
     events: &Events,
-    decider: &mut Decider<'a>,
+    decider: &mut Decider<'_, 'a>,
     window: &Window<'a>,
 ) -> Result<Counts, Memory>
     requires placed { stand_from position_of 1 events.now ≡ true }
     requires few { decider.old.joined < 2 ^ 63 }
-    requires knows { Knows decider.old (rules_of decider.old.rules) decider.old.room.now decider.old.user.now (between position_of 0 window.now.mark (of_room decider.old.room.now events.now)) }
+    requires knows { Knows decider.old (rules_of decider.old.rules.now) decider.old.room.now decider.old.user.now (between position_of 0 window.now.mark (of_room decider.old.room.now events.now)) }
     requires seen { HasSeen decider.old.user.now (of_room decider.old.room.now events.now) window.now }
-    ensures { IfOk result (λ c. c ≡ tallied (says_of (rules_of decider.old.rules) decider.old.room.now decider.old.user.now) decider.old.user.now (is_found events.now window.now.front) (between position_of 0 window.now.mark (of_room decider.old.room.now events.now)) no_counts (all_sighted window.now.seen.items)) }
+    ensures { IfOk result (λ c. c ≡ tallied (says_of (rules_of decider.old.rules.now) decider.old.room.now decider.old.user.now) decider.old.user.now (is_found events.now window.now.front) (between position_of 0 window.now.mark (of_room decider.old.room.now events.now)) no_counts (all_sighted window.now.seen.items)) }
 {
     let mut counts = NONE;
     'events: for found in window.seen.as_slice() {
@@ -82,11 +122,11 @@ fn walk<'a>(
 fn judge(
     alloc: Global,
     events: &Events,
-    decider: &Decider<'_>,
+    decider: &Decider<'_, '_>,
     found: &Sighted<'_>,
     front: u64,
 ) -> Result<Option<Notify>, Memory>
-    ensures { IfOk result (λ o. option_map (λ n. n.highlight) o ≡ judged (notifies (rules_of decider.now.rules) (setting_in decider.now found.now.event.now) found.now.event.now) decider.now.user.now (is_found events.now front) (sighted found.now)) }
+    ensures { IfOk result (λ o. option_map (λ n. n.highlight) o ≡ judged (notifies (rules_of decider.now.rules.now) (setting_in decider.now found.now.event.now) found.now.event.now) decider.now.user.now (is_found events.now front) (sighted found.now)) }
 {
     if may_count(events, decider.user, found, front) {
         decider.decide(alloc, found.event)

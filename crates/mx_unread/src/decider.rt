@@ -2,6 +2,8 @@
 
 ghost use Rattle.std.specs.Prelude.{◌≡◌, ◌<◌, ◌+◌, ◌-◌, ◌^◌, IfOk, OnOk, option_map};
 ghost use Rattle.std.specs.Option.{option_copied, option_and_then};
+ghost use Rattle.mx_ids.specs.Ids.{room_id_text};
+ghost use Rattle.mx_ids.specs.User.{server_of};
 ghost use Rattle.mx_window.specs.Windows.{between};
 ghost use Rattle.mx_event.specs.Lawful.{of_room};
 ghost use Rattle.mx_event.specs.Shown.{position_of};
@@ -25,8 +27,8 @@ use std::alloc::Global;
 
 /// A user's push rules, and what they read of a room at a position.
 #[derive(Drop)]
-pub(crate) struct Decider<'a> {
-    pub(crate) rules: RuleSet,
+pub(crate) struct Decider<'r, 'a> {
+    pub(crate) rules: &'r RuleSet,
     pub(crate) user: &'a UserId,
     pub(crate) room: &'a RoomId,
     /// The text of the room's id.
@@ -39,22 +41,22 @@ pub(crate) struct Decider<'a> {
     pub(crate) joined: u64,
 }
 
-impl<'a> Decider<'a> {
+impl<'r, 'a> Decider<'r, 'a> {
     /// The rules, in a room at a position. Takes the time of a search for each member event of the room up to it, and memory
     /// for as many.
     pub(crate) fn new(
         alloc: Global,
-        rules: RuleSet,
+        rules: &'r RuleSet,
         events: &'a Events,
         user: &'a UserId,
         room: &'a RoomId,
         position: u64,
-    ) -> Result<Decider<'a>, Memory>
-        ensures knows { IfOk result (λ d. Knows d (rules_of rules) room.now user.now (between position_of 0 position (of_room room.now events.now))) }
+    ) -> Result<Decider<'r, 'a>, Memory>
+        ensures knows { IfOk result (λ d. Knows d (rules_of rules.now) room.now user.now (between position_of 0 position (of_room room.now events.now))) }
         ensures few { IfOk result (λ d. d.joined < 2 ^ 63) }
     {
-        let mut room_text = Text::new(alloc);
-        write_room_id(alloc, room, user.server(), &mut room_text)?;
+        let joined = joined_at(alloc, events, room, position)?;
+        let room_text = id_text(alloc, room, user)?;
         Ok(Decider {
             rules,
             user,
@@ -62,13 +64,13 @@ impl<'a> Decider<'a> {
             room_text,
             levels: levels_at(alloc, events, room, position)?,
             own: events.last_of(room, MEMBER, user.as_str(), position),
-            joined: joined_at(alloc, events, room, position)?,
+            joined,
         })
     }
 
     /// What the rules say of the next event of the room.
     pub(crate) fn decide(&self, alloc: Global, event: &Event) -> Result<Option<Notify>, Memory>
-        ensures { IfOk result (λ o. option_map (λ n. n.highlight) o ≡ notifies (rules_of self.now.rules) (setting_in self.now event.now) event.now) }
+        ensures { IfOk result (λ o. option_map (λ n. n.highlight) o ≡ notifies (rules_of self.now.rules.now) (setting_in self.now event.now) event.now) }
     {
         let mut id = Text::new(alloc);
         write_event_id(alloc, &event.id, self.user.server(), &mut id)?;
@@ -80,7 +82,7 @@ impl<'a> Decider<'a> {
             room: self.room_text.as_str(),
             event_id: id.as_str(),
         };
-        Ok(decide(&self.rules, event, &context))
+        Ok(decide(self.rules, event, &context))
     }
 
     /// Takes the next event of the room, whose events the stream has.
@@ -93,6 +95,15 @@ impl<'a> Decider<'a> {
         self.own = newer(is_own(event, self.user), event, self.own);
         Ok(())
     }
+}
+
+/// The text of a room's id, by the server of a user.
+fn id_text(alloc: Global, room: &RoomId, user: &UserId) -> Result<Text, Memory>
+    ensures { IfOk result (λ text. text ≡ room_id_text (server_of user.now) room.now) }
+{
+    let mut text = Text::new(alloc);
+    write_room_id(alloc, room, user.server(), &mut text)?;
+    Ok(text)
 }
 
 /// The text `displayname` of a member event.
