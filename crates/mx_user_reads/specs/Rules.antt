@@ -22,6 +22,9 @@ rules_now l user = rules_at user (length l.accounts) l.accounts
 unfoldable pub push_rules : Lists → List ℕ → Bool → Said
 push_rules l user inner = said.Content (if inner then kinds_json (rules_now l user) else content_of (rules_now l user))
 
+abbrev pub rules_json : Bool → Rules → Json
+rules_json inner rs = if inner then kinds_json rs else content_of rs
+
 -- the object of the rule of an id among those of a kind, if there is one
 abbrev pub json_in : {T : Type 0} → (T → List (Member Json) → List (Member Json)) → List ℕ → Entries T → Option Json
 json_in asks id es = option_map (λ r. entry_json asks (id, r)) (find id es)

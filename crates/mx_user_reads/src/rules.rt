@@ -3,12 +3,13 @@
 ghost use Rattle.std.specs.Prelude.{◌≡◌, IfOk};
 ghost use Rattle.mx_rest.specs.Servers.{lists_of};
 ghost use Rattle.mx_rules.specs.Rules.{rules_of};
-ghost use Rattle.mx_user_reads.specs.Rules.{push_rule, push_rules, rule_actions, rule_enabled, rules_now};
+ghost use Rattle.mx_user_reads.specs.Rules.{push_rule, push_rules, rule_actions, rule_enabled, rules_json, rules_now};
 
 use crate::one_rule::{actions_json, actions_of, enabled_json, enabled_of, rule_json};
 use crate::told::told;
 use mx_ask::Said;
 use mx_ids::{Memory, Text, UserId};
+use mx_json::Json;
 use mx_rules::{Kind, RuleSet, kinds_json};
 use mx_snapshot::Snapshot;
 use mx_unread::rules_at;
@@ -27,10 +28,19 @@ pub fn push_rules(
     ensures { IfOk result (λ s. s ≡ push_rules (lists_of snapshot.now) user.now inner) }
 {
     let rules = rules_now(alloc, snapshot, user)?;
+    let json = rules_json(alloc, &rules, inner);
+    drop(rules);
+    Ok(Said::Content(json?))
+}
+
+/// The JSON of all rules, or the value of `global` alone.
+fn rules_json(alloc: Global, rules: &RuleSet, inner: bool) -> Result<Json, Memory>
+    ensures { IfOk result (λ j. j ≡ rules_json inner (rules_of rules.now)) }
+{
     if inner {
-        Ok(Said::Content(kinds_json(alloc, &rules)?))
+        kinds_json(alloc, rules)
     } else {
-        Ok(Said::Content(rules.to_json(alloc)?))
+        rules.to_json(alloc)
     }
 }
 
@@ -48,7 +58,9 @@ pub fn push_rule(
     ensures { IfOk result (λ s. s ≡ push_rule (lists_of snapshot.now) user.now kind id.now) }
 {
     let rules = rules_now(alloc, snapshot, user)?;
-    Ok(told(rule_json(alloc, &rules, kind, id)?))
+    let json = rule_json(alloc, &rules, kind, id);
+    drop(rules);
+    Ok(told(json?))
 }
 
 /// Whether a user's push rule of a kind and an id is enabled, in an object with the one key `enabled` (Client-Server API,
@@ -66,7 +78,9 @@ pub fn rule_enabled(
     ensures { IfOk result (λ s. s ≡ rule_enabled (lists_of snapshot.now) user.now kind id.now) }
 {
     let rules = rules_now(alloc, snapshot, user)?;
-    Ok(told(enabled_json(alloc, enabled_of(&rules, kind, id))?))
+    let enabled = enabled_of(&rules, kind, id);
+    drop(rules);
+    Ok(told(enabled_json(alloc, enabled)?))
 }
 
 /// The actions of a user's push rule of a kind and an id, in an object with the one key `actions` (Client-Server API, Push
@@ -84,7 +98,9 @@ pub fn rule_actions(
     ensures { IfOk result (λ s. s ≡ rule_actions (lists_of snapshot.now) user.now kind id.now) }
 {
     let rules = rules_now(alloc, snapshot, user)?;
-    Ok(told(actions_json(alloc, actions_of(&rules, kind, id))?))
+    let json = actions_json(alloc, actions_of(&rules, kind, id));
+    drop(rules);
+    Ok(told(json?))
 }
 
 /// The rules that are stored, or the default ones.

@@ -131,8 +131,9 @@ fn default_content(alloc: Global, user: &UserId) -> Result<Json, Memory>
     ensures { IfOk result (λ j. j ≡ rules.content_of (default_rules user.now)) }
 {
     let rules = defaults(alloc, user)?;
-    let content = rules.to_json(alloc)?;
-    Ok(content)
+    let content = rules.to_json(alloc);
+    drop(rules);
+    content
 }
 
 /// The tags of a content of `m.tag` in an object of their own.
