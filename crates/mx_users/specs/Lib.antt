@@ -1,2 +1,3 @@
 pub mod Finds
+pub mod Indexed
 pub mod UsersFile

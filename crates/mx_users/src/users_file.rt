@@ -1,6 +1,7 @@
 //! The users file.
-ghost use Rattle.std.specs.Prelude.{◌≡◌, ◌+◌, ◌==◌, ◌<◌, ◌^◌, true, false, length, Some, None, IfOk, IsErrOf, ok_or, option_map};
+ghost use Rattle.std.specs.Prelude.{◌≡◌, ◌+◌, ◌==◌, ◌<◌, ◌^◌, ◌&&◌, true, false, length, Some, None, IfOk, IsErrOf, ok_or, option_map};
 ghost use Rattle.std.specs.List.{slice_split};
+ghost use Rattle.mx_ids.specs.Name.{is_access_token, is_device_name, is_localpart};
 ghost use Rattle.mx_ids.specs.User.{user_id_text, is_user_id_text};
 ghost use Rattle.mx_users.specs.UsersFile.{Reads, starts_full, users_in, users_of_lines, server_in, server_of, with_bytes, with_line, with_lines, with_parts, with_text};
 ghost use Rattle.mx_users.specs.declared.fault.LineFault.{LineFault};
@@ -9,7 +10,7 @@ use crate::cuts::{cut, cut_line};
 use crate::directory::Directory;
 use crate::fault::{LineFault, UsersFault};
 use crate::name_forms::{is_access_token, is_device_name, is_localpart, is_server_name};
-use crate::user_list::UserList;
+use crate::user_list::{UserList, text_of};
 use mx_ids::{Memory, Text, UserId, user_id};
 use std::alloc::Global;
 
@@ -170,12 +171,26 @@ fn read_parts(
     ensures found { IfOk result (λ l. with_parts list.users localpart.now name.now token.now ≡ Some l.users) }
     ensures broken { IsErrOf result LineFault.Broken → with_parts list.users localpart.now name.now token.now ≡ None }
 {
+    let id = id_in(alloc, localpart, name, token, list.users.server.as_str())?;
+    let (list, user) = list.with_user(alloc, id)?;
+    list.with_device(alloc, user, name, token)
+}
+
+/// The user id of a line of these parts. `Broken` exactly where they aren't of their form.
+fn id_in(
+    alloc: Global,
+    localpart: &str,
+    name: &str,
+    token: &str,
+    server: &str,
+) -> Result<UserId, LineFault>
+    ensures found { IfOk result (λ id. (id ≡ user_id_text localpart.now server.now) × ((is_localpart localpart.now && is_user_id_text id && is_device_name name.now && is_access_token token.now) ≡ true)) }
+    ensures broken { IsErrOf result LineFault.Broken → (is_localpart localpart.now && is_user_id_text (user_id_text localpart.now server.now) && is_device_name name.now && is_access_token token.now) ≡ false }
+{
     if !is_localpart(localpart) || !is_device_name(name) || !is_access_token(token) {
         return Err(LineFault::Broken);
     }
-    let id = checked_id(id_text(alloc, localpart, list.users.server.as_str())?)?;
-    let (list, user) = list.with_user(alloc, id)?;
-    list.with_device(alloc, user, text_of(alloc, name)?, text_of(alloc, token)?)
+    checked_id(id_text(alloc, localpart, server)?)
 }
 
 /// The text of a user id, whatever its length.
@@ -194,10 +209,4 @@ fn checked_id(text: Text) -> Result<UserId, LineFault>
         Some(id) => Ok(id),
         None => Err(LineFault::Broken),
     }
-}
-
-fn text_of(alloc: Global, text: &str) -> Result<Text, Memory>
-    ensures { IfOk result (λ t. t ≡ text.now) }
-{
-    Ok(Text::from_string(String::from_str(alloc, text)?))
 }
