@@ -1,6 +1,6 @@
 //! The users and devices of a file, as far as it is read.
-ghost use Rattle.std.specs.Prelude.{◌≡◌, ◌≤◌, [], length, Some, None, IfOk, IsErrOf};
-ghost use Rattle.mx_users.specs.Indexed.{AreNamed, AreNumbered, AreTokened};
+ghost use Rattle.std.specs.Prelude.{◌≡◌, ◌≤◌, [], ◌∷◌, ◌++◌, length, Some, None, IfOk, OnOk, IsErrOf};
+ghost use Rattle.mx_users.specs.Indexed.{AreNamed, AreNumbered, AreTokened, with_one};
 ghost use Rattle.mx_users.specs.UsersFile as file;
 ghost use Rattle.mx_users.specs.UsersFile.{number_of};
 ghost use Rattle.mx_users.specs.declared.fault.LineFault.{LineFault};
@@ -136,7 +136,6 @@ fn place_user(
 /// Adds a device behind the others. `Broken` exactly where its user has one of this name, where a
 /// device has its token, or where it would be one too many. Where it fails, the indices may have
 /// more than the list.
-#[tactic(auto, unfolding(crate::specs::UsersFile::with_device))]
 fn add_device(
     alloc: Global,
     users: &mut Users,
@@ -152,6 +151,28 @@ fn add_device(
     ensures tokened { IfOk result (λ _. AreTokened users.new.devices tokens.new) }
     ensures users { IfOk result (λ _. users.new.users ≡ users.old.users) }
 {
+    index_device(alloc, users, names, tokens, &device)?;
+    users.devices.push(device)?;
+    Ok(())
+}
+
+/// Puts a device that is to follow the others into the indices. `Broken` exactly where its user
+/// has one of this name, where a device has its token, or where it would be one too many.
+#[tactic(auto, unfolding(crate::specs::UsersFile::with_device))]
+fn index_device(
+    alloc: Global,
+    users: &Users,
+    names: &mut BTreeSet<(u32, Text)>,
+    tokens: &mut BTreeMap<Text, u32>,
+    device: &Device,
+) -> Result<(), LineFault>
+    requires named { AreNamed users.now.devices names.old }
+    requires tokened { AreTokened users.now.devices tokens.old }
+    ensures found { OnOk result (file.with_device users.now device.now.user device.now.name device.now.token ≡ Some (with_one users.now device.now)) }
+    ensures broken { IsErrOf result LineFault.Broken → file.with_device users.now device.now.user device.now.name device.now.token ≡ None }
+    ensures named { OnOk result (AreNamed (users.now.devices ++ device.now ∷ []) names.new) }
+    ensures tokened { OnOk result (AreTokened (users.now.devices ++ device.now ∷ []) tokens.new) }
+{
     if tokens.contains_key(&device.token) {
         return Err(LineFault::Broken);
     }
@@ -163,7 +184,6 @@ fn add_device(
     }
     let number = users.devices.len() as u32;
     tokens.insert(device.token.copy(alloc)?, number)?;
-    users.devices.push(device)?;
     Ok(())
 }
 
