@@ -77,6 +77,7 @@ fn content_said(was_joined: bool, shown: Option<Shown>) -> Said
     }
 }
 
+/// The content alone. What else there is goes by statements, since its drop at the end costs the proof more.
 fn content_of(shown: Shown) -> Said
     ensures { result ≡ said.Content shown.event.content }
 {
