@@ -3,7 +3,7 @@
 ghost use Rattle.std.specs.Prelude.{◌≡◌, true, IfOk, OnOk};
 ghost use Rattle.mx_acts.specs.Acts.{Reads};
 ghost use Rattle.mx_engine.specs.Answers.{IsDone, Stops, counts_of, reading};
-ghost use Rattle.mx_engine.specs.Shown.{HasLooked, Ties, known_of, made_of, stores_of};
+ghost use Rattle.mx_engine.specs.Shown.{HasLooked, LooksOn, Ties, known_of, made_of, stores_of, taken_in};
 ghost use Rattle.mx_fold.specs.Lists.{Grows, Histories, Lists, lists_of};
 ghost use Rattle.mx_rest.specs.Servers.{AreValid};
 ghost use Rattle.mx_ask.specs.declared.said.Said.{Said};
@@ -25,6 +25,23 @@ impl EnginePass {
             events: self.events.stores(),
             receipts: self.receipts.stores(),
             accounts: self.accounts.stores(),
+        }
+    }
+
+    /// Whether the snapshot knows all that the pass has seen.
+    fn knows_all(&self) -> bool
+        ensures { result ≡ true → self.now.known ≡ counts_of (stores_of self.now) }
+    {
+        self.known == self.counts()
+    }
+
+    /// How many stores the snapshot knows, once it took in all that the pass has seen, or was refused the memory.
+    fn taken_in(&self, taken: &Result<(), Memory>) -> Counts
+        ensures { result ≡ taken_in taken.now (counts_of (stores_of self.now)) }
+    {
+        match taken {
+            Ok(()) => self.counts(),
+            Err(_) => Counts::NONE,
         }
     }
 
@@ -87,20 +104,21 @@ impl EnginePass {
 }
 
 impl<G: Gate + Drop> Engine<G> {
-    /// A look at each stream that answers no items. Takes no memory.
-    pub(crate) fn glance<R: Wait>(&self, rt: &R, pass: &mut EnginePass)
+    /// A look at each stream that answers no items. Waits for nobody and takes no memory.
+    pub(crate) fn glance(&self, pass: &mut EnginePass)
         requires ties { Ties self.now pass.old }
         ensures ties { Ties self.now pass.new }
         ensures begins { Grows (stores_of pass.old) (stores_of pass.new) }
         ensures made { made_of pass.new ≡ made_of pass.old }
         ensures looks { HasLooked pass.old pass.new }
     {
-        pass.events.glance(rt, self.events.stream());
-        pass.receipts.glance(rt, self.receipts.stream());
-        pass.accounts.glance(rt, self.accounts.stream());
+        pass.events.glance(self.events.stream());
+        pass.receipts.glance(self.receipts.stream());
+        pass.accounts.glance(self.accounts.stream());
     }
 
-    /// A look at each stream, after which the pass knows what it has seen.
+    /// A look at each stream, after which the pass knows what it has seen. Where nothing was stored since it knew of all that it
+    /// had seen it waits for nobody.
     pub(crate) fn look<R: Wait>(
         &self,
         rt: &R,
@@ -115,9 +133,28 @@ impl<G: Gate + Drop> Engine<G> {
         ensures known { OnOk result (known_of pass.new ≡ lists_of (stores_of pass.new)) }
         ensures valid { OnOk result (AreValid (known_of pass.new)) }
     {
+        self.glance(pass);
+        if pass.knows_all() {
+            return Ok(());
+        }
+        self.take_in(rt, alloc, pass)
+    }
+
+    /// A look at each stream in its turn: the snapshot takes in what is there.
+    fn take_in<R: Wait>(&self, rt: &R, alloc: Global, pass: &mut EnginePass) -> Result<(), Memory>
+        requires ties { Ties self.now pass.old }
+        ensures ties { Ties self.now pass.new }
+        ensures begins { Grows (stores_of pass.old) (stores_of pass.new) }
+        ensures made { made_of pass.new ≡ made_of pass.old }
+        ensures looks { LooksOn pass.old pass.new }
+        ensures known { OnOk result (known_of pass.new ≡ lists_of (stores_of pass.new)) }
+        ensures valid { OnOk result (AreValid (known_of pass.new)) }
+    {
         let events = pass.events.look(rt, alloc, self.events.stream());
         let receipts = pass.receipts.look(rt, alloc, self.receipts.stream());
         let accounts = pass.accounts.look(rt, alloc, self.accounts.stream());
-        pass.snapshot.advance(alloc, events?, receipts?, accounts?)
+        let taken = pass.snapshot.advance(alloc, events?, receipts?, accounts?);
+        pass.known = pass.taken_in(&taken);
+        taken
     }
 }

@@ -25,10 +25,10 @@ use Rattle.mx_front.specs.declared.view.Role.TheVariants.{Reader, Maker, Pen}
 use Rattle.mx_front.specs.declared.view.Turn.TheVariants.{Has}
 use Rattle.mx_front.specs.declared.view.View.{View}
 use Rattle.mx_front.specs.World.{Slot, Core, World, words_of, Good, Plays, Knows, Ruled, opening_view}
-use Rattle.mx_front.specs.Told.{Sat, block_at, claimed, came, looked, read_next, drew, put, left, learned, maker_after, pen_after, next_maker, new_pen, reader_of, both, hearing, spent}
+use Rattle.mx_front.specs.Told.{Sat, block_at, claimed, came, looked, glanced, read_next, drew, put, left, learned, maker_after, pen_after, next_maker, new_pen, reader_of, both, hearing, spent}
 use Rattle.mx_front.proofs.Worlds.{change, change_here, change_else, begins_longer, begins_shorter}
 use Rattle.mx_front.specs.Laws.{SeesOneHistory, Grows, StepsGrow}
-use Rattle.mx_front.proofs.Goes.{Goes, pen_is, few_drawn, plays_on, claims, comes, looks, reads, learns}
+use Rattle.mx_front.proofs.Goes.{Goes, pen_is, few_drawn, plays_on, claims, comes, looks, glances, reads, learns}
 use Rattle.mx_front.proofs.Moves.{draws, puts, leaves}
 
 -- the seat after the last
@@ -82,6 +82,9 @@ module _ {I : Type 0} (law : Law I) (key : Key) where
   pub looks_grow : (slots id t : ℕ) (m : Sat I) → m.0.turn ≡ Has t → Grows law key slots id m 3 (λ n. n) (looked law (step slots 3 0 0 maybe.none) m)
   looks_grow slots id t m is = allowed slots id m.0 m.1 3 (λ n. n) (looked law (step slots 3 0 0 maybe.none) m) (λ w. looks law key slots t w id m.0 m.1 is)
 
+  pub glances_grow : (slots id : ℕ) (m : Sat I) → Grows law key slots id m 3 (λ n. n) (glanced law (step slots 3 0 0 maybe.none) m)
+  glances_grow slots id m = allowed slots id m.0 m.1 3 (λ n. n) (glanced law (step slots 3 0 0 maybe.none) m) (λ w. glances law key slots w id m.0 m.1)
+
   pub reads_grow : (slots id : ℕ) (m : Sat I) → Grows law key slots id m 2 (λ n. n) (read_next (step slots 2 0 0 maybe.none) m)
   reads_grow slots id m = allowed slots id m.0 m.1 2 (λ n. n) (read_next (step slots 2 0 0 maybe.none) m) (λ w. reads law key slots w id m.0 m.1)
 
@@ -125,6 +128,9 @@ module _ {I : Type 0} (law : Law I) (key : Key) where
 
   pub looks_at : (slots id t : ℕ) (m : Sat I) → m.0.turn ≡ Has t → Allows (Ruled law key) slots id m 3 (λ n. n) (looked law (step slots 3 0 0 maybe.none) m)
   looks_at slots id t m is = step_of slots id m 3 (λ n. n) (looked law (step slots 3 0 0 maybe.none) m) (looks_grow slots id t m is)
+
+  pub glances_at : (slots id : ℕ) (m : Sat I) → Allows (Ruled law key) slots id m 3 (λ n. n) (glanced law (step slots 3 0 0 maybe.none) m)
+  glances_at slots id m = step_of slots id m 3 (λ n. n) (glanced law (step slots 3 0 0 maybe.none) m) (glances_grow slots id m)
 
   pub reads_at : (slots id : ℕ) (m : Sat I) → Allows (Ruled law key) slots id m 2 (λ n. n) (read_next (step slots 2 0 0 maybe.none) m)
   reads_at slots id m = step_of slots id m 2 (λ n. n) (read_next (step slots 2 0 0 maybe.none) m) (reads_grow slots id m)
@@ -329,6 +335,7 @@ steps_grow law key slots id m = record {
   claims = λ old. claims_grow law key slots id old m;
   comes = comes_grow law key slots id m;
   looks = λ t has. looks_grow law key slots id t m has;
+  glances = glances_grow law key slots id m;
   reads = reads_grow law key slots id m;
   learns = learns_grow law key slots id m;
   draws = λ n k d. draws_grow law key slots id n k m d.who d.free d.fresh d.below d.some_positions d.few d.space;

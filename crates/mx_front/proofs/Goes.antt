@@ -23,7 +23,7 @@ use Rattle.mx_front.specs.declared.view.Turn.TheVariants.{Idle, Waits, Has}
 use Rattle.mx_front.specs.declared.view.View.{View}
 use Rattle.mx_front.specs.Queue.{Line, IsHome, Waiting}
 use Rattle.mx_front.specs.World.{Slot, Core, World, words_of, Kept, Standing, Stocked, Good, InTurn, Queued, PenOf, Plays, Knowing, Knows}
-use Rattle.mx_front.specs.Told.{Sat, claimed, came, looking, looked, read_next, longer, learned}
+use Rattle.mx_front.specs.Told.{Sat, claimed, came, looking, looked, glancing, glanced, read_next, longer, learned}
 use Rattle.mx_front.proofs.Queues.{turn_cases, claimed_line, other_ticket, came_line, left_line}
 use Rattle.mx_front.proofs.Worlds.{change, change_here, passed_le, held_few, begins_longer, begins_one}
 
@@ -242,6 +242,40 @@ module _ {I : Type 0} (law : Law I) (key : Key) where
               above = λ b e. subst (λ l. top 0 l < b.first) (sym p.own_is) (reached_above s kept.reached pk b (p.block ∙ e));
               apart = λ b at e low high. ap (λ h. is_stored h at) q.whole ∙ stored_apart s kept.reached pk b at (p.block ∙ e) low high;
             };
+          },
+        );
+      }
+
+  -- without a turn, a look at the stores
+  pub glances : (slots : ℕ) (w : World I) (id : ℕ) (v : View I) (c : List (ℕ × Slot I)) → Good law key w → Knows key w id v
+      → Goes w id c 3 (length w.core.state.history) (glanced law (step slots 3 0 0 maybe.none) (v, c) (length w.core.state.history))
+  glances slots w id v c good k =
+      let s = w.core.state in
+      let kept = good.kept in
+      let whole : Begins s.history s.history = begins_self s.history in record {
+        to = w;
+        view = glancing v s.history;
+        act = keeps;
+        valid = tt;
+        good = good;
+        mine = record {
+          core = record { bound = k.core.bound; sees = whole; hears = k.core.hears; reads = k.core.reads; plays = k.core.plays };
+          queued = k.queued;
+        };
+        others = λ j x ne o. o;
+        words = refl;
+        homes = refl;
+        grows = whole;
+        tells = (
+          s.history,
+          refl,
+          record {
+            count = refl;
+            begins = k.core.sees;
+            lawful = kept.lawful;
+            orderly = runs_are_orderly s kept.reached s.history whole;
+            writers = of_writers s w.core.over kept v.writers s.history k.core.bound whole;
+            reads = omega (arith, k.core.reads, reached_counts s kept.reached, held_few s.held kept.blocks, kept.writers, kept.few);
           },
         );
       }

@@ -18,7 +18,7 @@ use Rattle.mx_front.specs.declared.view.Role.TheVariants.{Pen}
 use Rattle.mx_front.specs.declared.view.Turn.TheVariants.{Idle, Waits, Has}
 use Rattle.mx_front.specs.declared.view.View.{View}
 use Rattle.mx_front.specs.World.{Slot, Ruled}
-use Rattle.mx_front.specs.Told.{Sat, block_at, Came, Looked, looking, storing, put, reserve_in, leaving}
+use Rattle.mx_front.specs.Told.{Sat, block_at, Came, Looked, Glanced, looking, glancing, storing, put, reserve_in, leaving}
 use Rattle.mx_front.specs.Turns.{holding, HasBook, entering, Entered, seizing, Seized, Ready, Stores, Grown, MayLeave}
 use Rattle.mx_front.specs.Calls.{Finishes, KeepsSpace, Looks, Shows}
 use Rattle.mx_front.proofs.Allowed.{puts_at}
@@ -261,6 +261,22 @@ module _ {I : Type 0} where
       subst (HasLooked law v) (sym is) (record {
         rests = (refl, refl);
         looks = record { begins = s.begins; looks = refl; lawful = s.lawful; orderly = s.orderly; fewer = omega arith; writers = s.writers; read = refl; reads = s.reads };
+      })
+
+  -- what a pass knows after a look without a turn
+  pub record HasGlanced (law : Law I) (v : View I) (found : ℕ) (m : Sat I) : Type 0 where
+    pub rests : (m.0.turn ≡ Idle) × (m.1 ≡ [])
+    pub looks : Looks law v m.0
+    pub count : found ≡ length m.0.seen
+
+  pub has_glanced : (law : Law I) (m : Sat I) (found : ℕ) (m' : Sat I) → (m.0.turn ≡ Idle) × (m.1 ≡ []) → (all : List (Stored I)) × (m' ≡ (glancing m.0 all, m.1)) × Glanced law m.0 found all
+      → HasGlanced law m.0 found m'
+  has_glanced law m found m' rests told =
+      let s = told.2 in
+      subst (HasGlanced law m.0 found) (sym told.1) (record {
+        rests = rests;
+        looks = record { begins = s.begins; looks = refl; lawful = s.lawful; orderly = s.orderly; read = refl; fewer = omega arith; writers = s.writers; reads = s.reads };
+        count = s.count;
       })
 
   -- the items up to the front

@@ -17,7 +17,7 @@ use Rattle.mx_front.specs.declared.board.Key.{Key}
 use Rattle.mx_front.specs.declared.view.Role.TheVariants.{Pen}
 use Rattle.mx_front.specs.declared.view.View.{View}
 use Rattle.mx_front.specs.declared.view.Turn.TheVariants.{Has}
-use Rattle.mx_front.specs.Told.{Sat, block_at, claimed, came, looked, read_next, drew, put, left, learned}
+use Rattle.mx_front.specs.Told.{Sat, block_at, claimed, came, looked, glanced, read_next, drew, put, left, learned}
 use Rattle.mx_front.specs.World.{Slot, Ruled}
 
 -- a pen's own list is all that its writer has stored, once and in its order, and its block is the one that the machine has for it
@@ -99,6 +99,7 @@ pub record AllGrow {I : Type 0} (law : Law I) (key : Key) (slots id : ℕ) (m : 
   pub reads : Grows law key slots id m 2 (λ n. n) (read_next (step slots 2 0 0 maybe.none) m)
   pub draws : (n k : ℕ) → MayDraw key m.0 n k → Grows law key slots id m 2 (λ x. (x + n) % 2 ^ 64) (drew (step slots 2 n 0 maybe.none) m)
   pub looks : (t : ℕ) → m.0.turn ≡ Has t → Grows law key slots id m 3 (λ n. n) (looked law (step slots 3 0 0 maybe.none) m)
+  pub glances : Grows law key slots id m 3 (λ n. n) (glanced law (step slots 3 0 0 maybe.none) m)
   pub puts : (t n : ℕ) (x : Stored I) (b : Held I) → MayPut law m t n x b → Grows law key slots id m 3 (λ _. n) (λ _. put (step slots 3 n 0 maybe.none) m n)
 
 abbrev pub StepsGrow : {I : Type 0} → Law I → Type 0

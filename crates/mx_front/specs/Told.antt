@@ -64,6 +64,21 @@ looking v = record v { seen = v.all; looks = v.looks + 1 }
 abbrev pub looked : {I : Type 0} → Law I → At I → Sat I → ℕ → Sat I → Type 0
 looked law st m found m' = (m' ≡ (looking m.0, m.1)) × Looked law m.0 found
 
+-- what a look without a turn tells of the stores of its moment
+pub record Glanced {I : Type 0} (law : Law I) (v : View I) (found : ℕ) (all : List (Stored I)) : Type 0 where
+  pub count : found ≡ length all
+  pub begins : Begins v.seen all
+  pub lawful : keeps_law law [] all ≡ true
+  pub orderly : IsOrderly all
+  pub writers : AreOf v.writers all
+  pub reads : v.read ≤ stored_count all + most_held
+
+abbrev pub glancing : {I : Type 0} → View I → List (Stored I) → View I
+glancing v all = record v { seen = all; looks = v.looks + 1 }
+
+abbrev pub glanced : {I : Type 0} → Law I → At I → Sat I → ℕ → Sat I → Type 0
+glanced {I} law st m found m' = (all : List (Stored I)) × (m' ≡ (glancing m.0 all, m.1)) × Glanced law m.0 found all
+
 -- the number of positions that were drawn
 abbrev pub read_next : {I : Type 0} → At I → Sat I → ℕ → Sat I → Type 0
 read_next st m found m' = (m' ≡ (record m.0 { read = found; fresh = true }, m.1)) × (m.0.read ≤ found)

@@ -1,6 +1,6 @@
 //! Pens and passes, and what a draw answers.
 
-ghost use Rattle.std.specs.Prelude.{◌≡◌, [], true, length};
+ghost use Rattle.std.specs.Prelude.{◌≡◌, ◌≤◌, [], true, length};
 ghost use Rattle.mx_core.specs.Orderly.{IsOrderly};
 ghost use Rattle.mx_core.proofs.Orders.{IsOrderly-prop};
 ghost use Rattle.mx_core.specs.History.{own, AreOf, keeps_law};
@@ -34,12 +34,15 @@ pub struct Pen<I: Placed> {
     pub(crate) seat: Place<I>,
     pub(crate) writer: u8,
     pub(crate) stores: u64,
+    /// At least so many items its lane has space for.
+    pub(crate) space: u64,
     ghost rests: { (seat.me.0.turn ≡ Idle) × (seat.me.1 ≡ []) },
     ghost writes: { seat.me.0.who ≡ roles.Pen writer },
     ghost complete: { own seat.me.0.seen writer ≡ seat.me.0.own },
     ghost lawful: { keeps_law I.lawful [] seat.me.0.seen ≡ true },
     ghost orderly: { IsOrderly seat.me.0.seen } by { IsOrderly-prop seat.me.0.seen },
     ghost counted: { stores ≡ length seat.me.0.seen },
+    ghost spaced: { space ≤ seat.me.0.reserve },
 }
 
 /// A reader of a stream. What it has seen is the beginning of the stream's history.

@@ -1,6 +1,6 @@
 //! What each step at a stream's table tells.
 
-ghost use Rattle.mx_front.specs.Told.{claimed, came, looked, read_next, drew, put, left, learned, next_maker, new_pen, same, reader_of, both, hearing, spent};
+ghost use Rattle.mx_front.specs.Told.{claimed, came, looked, glanced, read_next, drew, put, left, learned, next_maker, new_pen, same, reader_of, both, hearing, spent};
 
 use crate::view::View;
 use atomic_table::{Join, Play, Split};
@@ -29,6 +29,15 @@ pub struct Looked<I> {
 
 impl<I: Placed> Play<Option<Book<I>>, View<I>> for Looked<I> {
     ghost then = { looked I.lawful };
+}
+
+/// Without a turn, a look at the stores.
+pub struct Glanced<I> {
+    of: PhantomData<I>,
+}
+
+impl<I: Placed> Play<Option<Book<I>>, View<I>> for Glanced<I> {
+    ghost then = { glanced I.lawful };
 }
 
 /// The number of positions that were drawn is read.

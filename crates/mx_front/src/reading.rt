@@ -5,7 +5,7 @@ ghost use Rattle.mx_front.specs.Calls.{Looks, Shows, Meets, Notes};
 ghost use Rattle.mx_front.specs.Shown.{place_of, known, number, place_of_pen, reads, seen_by, place_of_pass};
 ghost use Rattle.mx_front.specs.Told.{hearing, reader_of};
 
-use crate::board::TICKET;
+use crate::board::{COUNT, TICKET};
 use crate::front::Stream;
 use crate::handles::{Pass, Pen};
 use crate::plays;
@@ -32,21 +32,25 @@ impl<I: Placed + Drop> Stream<I> {
         ensures seen { Looks I.lawful (reads pass.old) (reads pass.new) }
         ensures parts { IfOk result (λ parts. Shows (seen_by pass.new) parts) }
     {
+        let door = self.door.lock(rt);
         let owed = self.seize(rt, &mut pass.seat, &mut pass.stores);
         let parts = self.read_parts(alloc, &mut pass.seat);
         self.leave(&mut pass.seat, owed);
+        drop(door);
         parts
     }
 
     /// A look that answers no items: the pass has then seen more stores, as after `look`, and its number of looks rises
-    /// by one. Waits for its turn at the stream, and takes no memory.
-    pub fn glance<R: Wait>(&self, rt: &R, pass: &mut Pass<I>)
+    /// by one. Waits for nobody and takes no memory: one load.
+    pub fn glance(&self, pass: &mut Pass<I>)
         requires stream { place_of_pass pass.old ≡ place_of self.now }
         ensures stream { place_of_pass pass.new ≡ place_of_pass pass.old }
         ensures seen { Looks I.lawful (reads pass.old) (reads pass.new) }
     {
-        let owed = self.seize(rt, &mut pass.seat, &mut pass.stores);
-        self.leave(&mut pass.seat, owed);
+        pass.stores = self
+            .table
+            .shared
+            .load::<plays::Glanced<I>>(&mut pass.seat, COUNT);
     }
 
     /// A new pass that has seen what a pass of this stream has seen, and has kept its value of `next`. Always `Ok`: a

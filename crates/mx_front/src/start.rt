@@ -16,6 +16,7 @@ use mx_core::Placed;
 use mx_ids::{Memory, Seq};
 use mx_lanes::Book;
 use std::alloc::Global;
+use std::sync::Mutex;
 
 /// A stream of 1 to 16 writers of which no block is drawn once `stop` positions were; with it the pens in the order
 /// of their writers, each without a store, a block or a reserve, and a pass. Pens and pass have seen nothing. `stop` is
@@ -70,7 +71,10 @@ fn open<I: Placed + Drop>(
         &key,
     );
     match made {
-        Ok((table, seat)) => Ok((Stream { table, stop }, seat)),
+        Ok((table, seat)) => {
+            let door = Mutex::new(());
+            Ok((Stream { table, stop, door }, seat))
+        }
         Err(Refused { slots: _ }) => Err(Memory),
     }
 }
@@ -90,6 +94,7 @@ impl<I: Placed + Drop> Stream<I> {
             seat,
             writer,
             stores: 0,
+            space: 0,
         }
     }
 }

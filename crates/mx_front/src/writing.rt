@@ -14,6 +14,9 @@ use mx_core::Placed;
 use mx_ids::{Memory, Seq};
 use std::sync::Wait;
 
+/// For how many items space is made ahead.
+const AHEAD: u16 = 64;
+
 impl<I: Placed + Drop> Stream<I> {
     /// Draws the next `n` positions, 1 to 256, for a pen of this stream that holds no block and has space for them.
     /// Waits for nobody and takes no memory: one load and one `fetch_add`. The block lies after all stores of the pen's
@@ -40,17 +43,36 @@ impl<I: Placed + Drop> Stream<I> {
         })
     }
 
-    /// Makes space for `n` items of a pen of this stream: its reserve is then at least `n`. Waits for its turn at the
-    /// stream. Where the allocator refuses the space it answers `Memory`, and the reserve is at least what it was.
+    /// Makes space for `n` items of a pen of this stream: its reserve is then at least `n`. Where it isn't known to be so
+    /// already, it waits for its turn at the stream, and makes space for 64 items at least. Where the allocator refuses the
+    /// space it answers `Memory`, and the reserve is at least what it was.
     pub fn reserve<R: Wait>(&self, rt: &R, pen: &mut Pen<I>, n: u16) -> Result<(), Memory>
         requires stream { place_of_pen pen.old ≡ place_of self.now }
         ensures stream { (place_of_pen pen.new ≡ place_of_pen pen.old) × (number pen.new ≡ number pen.old) }
         ensures space { OnOk result (n ≤ (known pen.new).reserve) }
         ensures kept { KeepsSpace (known pen.old) (known pen.new) }
     {
+        if u64::from(n) <= pen.space {
+            return Ok(());
+        }
+        let count = n.max(AHEAD);
+        self.reserve_more(rt, pen, count)?;
+        pen.space = u64::from(count);
+        Ok(())
+    }
+
+    /// The same, in a turn, for just so many items.
+    fn reserve_more<R: Wait>(&self, rt: &R, pen: &mut Pen<I>, n: u16) -> Result<(), Memory>
+        requires stream { place_of_pen pen.old ≡ place_of self.now }
+        ensures stream { (place_of_pen pen.new ≡ place_of_pen pen.old) × (number pen.new ≡ number pen.old) }
+        ensures space { OnOk result (n ≤ (known pen.new).reserve) }
+        ensures kept { KeepsSpace (known pen.old) (known pen.new) }
+    {
+        let door = self.door.lock(rt);
         let owed = self.enter(rt, &mut pen.seat);
         let made = self.more_space(&mut pen.seat, pen.writer, n);
         self.leave(&mut pen.seat, owed);
+        drop(door);
         made
     }
 
@@ -65,6 +87,7 @@ impl<I: Placed + Drop> Stream<I> {
         ensures stream { (place_of_pen pen.new ≡ place_of_pen pen.old) × (number pen.new ≡ number pen.old) }
         ensures stored { Finishes I.lawful (known pen.old) (record { writer = number pen.old; first = drawn.first; items = items }) result (known pen.new) }
     {
+        let door = self.door.lock(rt);
         let owed = self.seize(rt, &mut pen.seat, &mut pen.stores);
         let front = self.put_store(
             &mut pen.seat,
@@ -74,6 +97,8 @@ impl<I: Placed + Drop> Stream<I> {
             &mut pen.stores,
         );
         self.leave(&mut pen.seat, owed);
+        drop(door);
+        pen.space = pen.space.saturating_sub(u64::from(drawn.count));
         front
     }
 }

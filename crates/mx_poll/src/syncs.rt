@@ -42,7 +42,7 @@ pub(crate) fn sync<G: Gate + Drop, R: Wait + rt::Clock, C: Clock>(
     let mut reading = now;
     'looks: for _ in rt.forever() {
         // Counted before the look: a store after it ends the rest.
-        let wakes = waiters.count(rt);
+        let wakes = waiters.count();
         let answered = engine.sync(rt, alloc, pass, reading, who, since, filter, full_state);
         if is_due(since, full_state, &answered.said, reading, deadline) {
             return answered;

@@ -6,6 +6,7 @@ ghost use Rattle.mx_front.specs.Shown.{known, number, place_of, writers_of};
 use crate::board::Locks;
 use crate::folds::Folds;
 use mx_front::{Pen, Stream};
+use std::sync::Mutex;
 
 /// The pen of a writer, with the value that is the fold of the pen's own list.
 #[derive(Drop)]
@@ -26,8 +27,11 @@ pub struct Shard<F: Folds> {
 pub struct Writers<F: Folds> {
     pub(crate) stream: Stream<F::Item>,
     pub(crate) table: Locks<F>,
+    /// For each writer a door: whoever has a ticket for its turn has locked it, and the others rest there.
+    pub(crate) doors: Vec<Mutex<()>>,
     ghost sized: { (table.shared.table_id.words ≡ 2 * writers_of stream) × (table.shared.table_id.slots ≡ writers_of stream) },
     ghost keyed: { place_of table.shared.key ≡ place_of stream },
+    ghost barred: { length doors.items ≡ writers_of stream },
 }
 
 impl<F: Folds> Writers<F> {

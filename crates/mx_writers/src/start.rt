@@ -13,6 +13,7 @@ use atomic_table::{Refused, Table};
 use mx_front::{Pen, Stream};
 use mx_ids::{Memory, Seq};
 use std::alloc::Global;
+use std::sync::Mutex;
 
 /// The shard of a writer: its pen, which holds no block, its value, which is the fold of the pen's own list, and how
 /// many stores that list has. Takes no memory.
@@ -44,6 +45,7 @@ pub fn writers<F: Folds>(
     ensures { IfOk result (λ w. w.stream ≡ stream) }
 {
     let words = vec![in alloc; 0u64; 2 * pens.len()]?;
+    let doors = open_doors(alloc, pens.len())?;
     let shards = fresh_shards(alloc, &stream, pens, folds)?;
     let made: Result<(Locks<F>, _), Refused<Option<Shard<F>>, Global>> = Table::new(
         alloc,
@@ -52,9 +54,24 @@ pub fn writers<F: Folds>(
         &stream,
     );
     match made {
-        Ok((table, _seat)) => Ok(Writers { stream, table }),
+        Ok((table, _seat)) => Ok(Writers {
+            stream,
+            table,
+            doors,
+        }),
         Err(Refused { slots: _ }) => Err(Memory),
     }
+}
+
+/// So many doors, at which nobody is.
+fn open_doors(alloc: Global, count: usize) -> Result<Vec<Mutex<()>>, Memory>
+    ensures { IfOk result (λ doors. length doors.items ≡ count) }
+{
+    let mut doors = Vec::with_capacity(alloc, count)?;
+    'doors: for _index in 0..count {
+        doors.push_reserved(Mutex::new(()));
+    }
+    Ok(doors)
 }
 
 /// The shards of the writers, in their order, each for its slot.

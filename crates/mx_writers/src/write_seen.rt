@@ -34,11 +34,13 @@ impl<F: Folds> Writers<F> {
         ensures wrote { WritesSeen F.Item.placed F.decides shard (stop_of self.now.stream) draft result (reads pass.old) (reads pass.new) }
         ensures told { WasTold (G.told gate.now) shard result }
     {
+        let door = self.doors[usize::from(shard)].lock(rt);
         let (owed, mut seat) = self.begin(rt, shard);
         let mut taken = self.take_shard(&mut seat, shard, owed.ticket);
         let mut watch = Watch::new(gate);
         let answer = write_noted(rt, alloc, &self.stream, &mut taken, draft, &mut watch, pass);
         self.leave(seat, shard, owed, taken);
+        drop(door);
         answer
     }
 }

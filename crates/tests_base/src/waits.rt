@@ -7,7 +7,7 @@ use std::{rt, thread};
 
 /// Rests in one thread and wakes from another a little later, and answers the count before and afterwards.
 fn woken<R: Wait + Threads + rt::Clock + Sync>(rt: &R, waiters: &Waiters) -> (u64, u64) {
-    let seen = waiters.count(rt);
+    let seen = waiters.count();
     thread::join(
         rt,
         || waiters.rest(rt, seen, 600_000),
@@ -16,7 +16,7 @@ fn woken<R: Wait + Threads + rt::Clock + Sync>(rt: &R, waiters: &Waiters) -> (u6
             waiters.wake(rt);
         },
     );
-    (seen, waiters.count(rt))
+    (seen, waiters.count())
 }
 
 #[test]
@@ -29,16 +29,16 @@ fn a_rest_ends_when_another_thread_wakes(rt: HostRuntime) {
 #[test]
 fn a_rest_ends_by_its_time(rt: HostRuntime) {
     let waiters = Waiters::new();
-    let seen = waiters.count(&rt);
+    let seen = waiters.count();
     waiters.rest(&rt, seen, 20);
-    assert_eq!(rt; waiters.count(&rt), seen);
+    assert_eq!(rt; waiters.count(), seen);
 }
 
 #[test]
 fn a_wake_before_the_rest_is_seen(rt: HostRuntime) {
     let waiters = Waiters::new();
-    let seen = waiters.count(&rt);
+    let seen = waiters.count();
     waiters.wake(&rt);
     waiters.rest(&rt, seen, 600_000);
-    assert_eq!(rt; waiters.count(&rt), 1);
+    assert_eq!(rt; waiters.count(), 1);
 }

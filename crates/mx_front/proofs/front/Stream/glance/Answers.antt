@@ -1,14 +1,15 @@
-use Rattle.mx_front.proofs.Seats.{counted_look, has_looked, kept_book}
+use Rattle.std.proofs.Common.{rules}
+use Rattle.mx_front.proofs.Allowed.{glances_at}
+use Rattle.mx_front.proofs.Seats.{has_glanced}
 use Rattle.mx_front.proofs.front.Stream.glance.Goals as goal
+
+pub load-pass-requires : goal.load-pass-requires
+load-pass-requires g c = (search rules, search rules, glances_at _ _ _ _ _)
 
 pub invariant_of-pass : goal.invariant_of-pass
 invariant_of-pass g c =
-    let s = c.seize-owed.ensures.seized in
-    let kept = kept_book _ _ _ _ s in
-    let h = has_looked _ _ _ _ _ _ s kept c.leave.ensures.left in
-    record { rests = h.rests; lawful = h.looks.lawful; orderly = h.looks.orderly; of_writers = h.looks.writers; counted = counted_look _ _ _ _ kept c.leave.ensures.left c.seize-owed.ensures.count }
+    let h = has_glanced _ _ _ _ c.args.pass.now.rests c.load-pass.ensures.2 in
+    record { rests = h.rests; lawful = h.looks.lawful; orderly = h.looks.orderly; of_writers = h.looks.writers; counted = h.count }
 
 pub returns-clause-seen : goal.returns-clause-seen
-returns-clause-seen g c =
-    let s = c.seize-owed.ensures.seized in
-    (has_looked _ _ _ _ _ _ s (kept_book _ _ _ _ s) c.leave.ensures.left).looks
+returns-clause-seen g c = (has_glanced _ _ _ _ c.args.pass.now.rests c.load-pass.ensures.2).looks

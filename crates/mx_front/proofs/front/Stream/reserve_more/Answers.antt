@@ -1,8 +1,8 @@
-use Rattle.std.proofs.Common.{ap, sym, subst, ◌∙◌, length, rules}
+use Rattle.std.proofs.Common.{ap, sym, subst, ◌∙◌, length, rules, arith}
 use Rattle.mx_core.specs.History.{own}
 use Rattle.mx_core.specs.Orderly.{IsOrderly}
 use Rattle.mx_front.proofs.Seats.{lane_in, reserved, spaced}
-use Rattle.mx_front.proofs.front.Stream.reserve.Goals as goal
+use Rattle.mx_front.proofs.front.Stream.reserve_more.Goals as goal
 
 pub more_space-made-requires-clause-book : goal.more_space-made-requires-clause-book
 more_space-made-requires-clause-book g c = lane_in _ _ _ _ c.enter-owed.ensures.entered c.args.pen.now.writes
@@ -16,6 +16,7 @@ invariant_of-pen g c =
       lawful = search (rules, r.keeps_space.seen);
       orderly = subst IsOrderly (sym r.keeps_space.seen) c.args.pen.now.orderly;
       counted = c.args.pen.now.counted ∙ sym (ap length r.keeps_space.seen);
+      spaced = omega (arith, r.keeps_space.reserve, c.args.pen.now.spaced);
     }
 
 pub returns-clause-space : goal.returns-clause-space
