@@ -6,7 +6,6 @@ ghost use Rattle.bench_reads.specs.InPlace.{Knows};
 
 use crate::stock::Stock;
 use mx_ids::Memory;
-use mx_lanes::Parts;
 use mx_outside::Clock;
 use mx_snapshot::Snapshot;
 use std::alloc::Global;
@@ -55,5 +54,5 @@ fn go_on(alloc: Global, stock: &mut Stock, known: &mut Snapshot, front: u64) -> 
     ensures knows { OnOk result (Knows (covered stock.new.book.history) known.new) }
 {
     let parts = stock.up_to(alloc, front)?;
-    known.advance(alloc, parts, Parts::none(alloc), Parts::none(alloc))
+    known.events.advance(alloc, parts)
 }

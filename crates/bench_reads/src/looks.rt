@@ -42,7 +42,9 @@ fn known(alloc: Global, items: u64) -> Result<Snapshot, Memory> {
     let receipts = Parts::of(alloc, &receipts, items)?;
     let accounts = Parts::of(alloc, &accounts, items)?;
     let mut known = Snapshot::new(alloc);
-    known.advance(alloc, events, receipts, accounts)?;
+    known.events.advance(alloc, events)?;
+    known.receipts.advance(alloc, receipts)?;
+    known.accounts.advance(alloc, accounts)?;
     Ok(known)
 }
 

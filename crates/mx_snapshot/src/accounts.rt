@@ -56,8 +56,9 @@ impl Accounts {
         }
     }
 
-    /// Goes on to a later front: only the entries after the old one are looked at. `Memory` leaves nothing.
-    pub(crate) fn grow(&mut self, alloc: Global, entries: Parts<Entry>) -> Result<(), Memory>
+    /// Goes on to a later front: the list begins with what is known, and each entry stands at its own position. Only the entries after the
+    /// old front are looked at. `Memory` leaves no entry, and the next call takes in all.
+    pub fn advance(&mut self, alloc: Global, entries: Parts<Entry>) -> Result<(), Memory>
         requires begins { Begins self.old entries.items }
         requires placed { AreInPlace entries.items }
         ensures ok { OnOk result (self.new ≡ entries.items) }

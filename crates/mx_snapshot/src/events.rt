@@ -62,8 +62,9 @@ impl Events {
         }
     }
 
-    /// Goes on to a later front: only the events after the old one are looked at. `Memory` leaves nothing.
-    pub(crate) fn grow(&mut self, alloc: Global, events: Parts<Event>) -> Result<(), Memory>
+    /// Goes on to a later front: the list begins with what is known, and each event stands at its own position. Only the events after the
+    /// old front are looked at. `Memory` leaves no event, and the next call takes in all.
+    pub fn advance(&mut self, alloc: Global, events: Parts<Event>) -> Result<(), Memory>
         requires begins { Begins self.old events.items }
         requires placed { stand_from position_of 1 events.items ≡ true }
         ensures ok { OnOk result (self.new ≡ events.items) }

@@ -57,8 +57,9 @@ impl Receipts {
         }
     }
 
-    /// Goes on to a later front: only the receipts after the old one are looked at. `Memory` leaves nothing.
-    pub(crate) fn grow(&mut self, alloc: Global, receipts: Parts<Receipt>) -> Result<(), Memory>
+    /// Goes on to a later front: the list begins with what is known, and each receipt stands at its own position. Only the receipts after
+    /// the old front are looked at. `Memory` leaves no receipt, and the next call takes in all.
+    pub fn advance(&mut self, alloc: Global, receipts: Parts<Receipt>) -> Result<(), Memory>
         requires begins { Begins self.old receipts.items }
         requires placed { AreInPlace receipts.items }
         ensures ok { OnOk result (self.new ≡ receipts.items) }

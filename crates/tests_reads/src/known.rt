@@ -131,6 +131,8 @@ pub fn snapshot(
 {
     let parts = Parts::of(alloc, events, 1)?;
     let mut known = Snapshot::new(alloc);
-    known.advance(alloc, parts, receipts, accounts)?;
+    known.events.advance(alloc, parts)?;
+    known.receipts.advance(alloc, receipts)?;
+    known.accounts.advance(alloc, accounts)?;
     Ok(known)
 }

@@ -156,6 +156,7 @@ pub fn known(
     let made = events(rt, alloc, part(rt, story, 0), count)?;
     let parts = Parts::of(alloc, &made, count)?;
     let entries = accounts(rt, alloc, part(rt, story, 1), set)?;
-    known.advance(alloc, parts, Parts::none(alloc), entries)?;
+    known.events.advance(alloc, parts)?;
+    known.accounts.advance(alloc, entries)?;
     Ok(known)
 }
