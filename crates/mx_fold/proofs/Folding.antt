@@ -29,9 +29,10 @@ use Rattle.mx_core.proofs.Covering.{front_rises}
 use Rattle.mx_fold.specs.Lists.{Lists, Histories, Counts, AreFewer, AreLawful, no_lists, no_stores, upto, fronts_of, counts_of, lists_of, lists_at, events_in}
 use Rattle.mx_fold.specs.Servers.{Server, RestsFold, rest_of, story}
 use Rattle.mx_fold.specs.Accounts.{content_at, account_at, account_sent}
-use Rattle.mx_fold.specs.Replies.{Extent, sync_in, SyncAsk, PageAsk, Ask, Syncs, Pages, Else, Replied, Showed, PassedOver, Reply, to_at, asked_gap, is_behind, heroes_in, reply_of, page_asked, sees_room, answer_to}
+use Rattle.mx_fold.specs.Replies.{Extent, sync_in, SyncAsk, PageAsk, Ask, Syncs, Pages, Else, Replied, Showed, PassedOver, Reply, Said, to_at, asked_gap, is_behind, heroes_in, reply_of, page_asked, sees_room, answer_to}
 use Rattle.mx_fold.specs.Clients.{Client, nothing_held, after_reply, with_reply, page_into, after_page, opening_of, with_gap, with_shown, with_said, chain, Agrees}
 use Rattle.mx_fold.specs.Exchanges.{Mark, exchange_at, exchanges, MarksRise, ConnectionsAgree}
+use Rattle.mx_fold.specs.Anywhere.{ReachesToken, Reaches, after_exchange, PagesReach, ClientsAgree}
 use Rattle.mx_fold.proofs.Readers.{same_told_read, page_read}
 use Rattle.mx_fold.proofs.Marked.{mark_upto, events_stand, accounts_stand, told_at_mark, page_at_mark}
 use Rattle.mx_fold.proofs.Accounts.{account_new, account_more, account_at_mark}
@@ -42,7 +43,7 @@ upto_next : (lists : Lists) (since : Option SyncToken) (fronts : SyncToken) → 
 upto_next lists None fronts = refl
 upto_next lists (Some s) fronts = refl
 
-next_before : (since : Option SyncToken) (fronts : SyncToken) → is_before (next_token since fronts) fronts ≡ true
+pub next_before : (since : Option SyncToken) (fronts : SyncToken) → is_before (next_token since fronts) fronts ≡ true
 next_before None fronts = before_self (next_token None fronts) fronts refl refl refl refl
 next_before (Some s) fronts = before_self (next_token (Some s) fronts) fronts refl refl refl refl
 
@@ -68,50 +69,36 @@ module _ {V D : Type 0} (w : Server V D) (h : Histories) (lawful : AreLawful h) 
   abbrev folded : Client V → chains.Client RoomId Event Key V SyncToken
   folded c = record { token = Some c.token; base = c.token.b; front = c.front; rooms = λ room. c.rooms room }
 
-  -- the client comes from turns, and its token lies at or before these fronts
-  record Kept (fronts : SyncToken) (c : Client V) : Type 0 where
+  -- the client comes from turns
+  record Kept (c : Client V) : Type 0 where
     pub turns : List (Turn RoomId Event Key SyncToken)
     pub taken : AreTurns tokens stories nobody turns
     pub comes : folded c ≡ after_turns tokens stories nobody turns
     pub based : c.token.b ≤ c.token.e
-    pub reached : is_before c.token fronts ≡ true
     pub account : (kind : List ℕ) → c.account kind ≡ account_at w final.accounts user f c.token.a kind
 
-  abbrev KeptIf : SyncToken → Option (Client V) → Type 0
-  KeptIf fronts None = ⊤
-  KeptIf fronts (Some c) = Kept fronts c
+  abbrev KeptIf : Option (Client V) → Type 0
+  KeptIf None = ⊤
+  KeptIf (Some c) = Kept c
 
   -- what comes from turns agrees
-  rooms_agree : (fronts : SyncToken) (c : Client V) → Kept fronts c → chains.Agrees tokens stories (folded c)
-  rooms_agree fronts c kept =
+  rooms_agree : (c : Client V) → Kept c → chains.Agrees tokens stories (folded c)
+  rooms_agree c kept =
       subst (chains.Agrees tokens stories) (sym kept.comes)
       (valid_folds tokens are_tokens user rooms
       (record { by_type = by_type w.name f folds; valid = (rooms_are_valid h.events lawful.orderly lawful.events).1; rest = rests user f })
       kept.turns kept.taken)
 
-  agrees_from : (fronts : SyncToken) (client : Option (Client V)) → KeptIf fronts client → IfSome client (Agrees w user f final)
-  agrees_from fronts None kept = tt
-  agrees_from fronts (Some c) kept = record {
+  agrees_from : (client : Option (Client V)) → KeptIf client → IfSome client (Agrees w user f final)
+  agrees_from None kept = tt
+  agrees_from (Some c) kept = record {
     rooms =
         λ room. holds_picture w final user f c.token c.front room (c.rooms room) (by_type w.name f folds room)
-        ((rooms_are_valid h.events lawful.orderly lawful.events).1 room).ascends (rooms_agree fronts c kept room);
+        ((rooms_are_valid h.events lawful.orderly lawful.events).1 room).ascends (rooms_agree c kept room);
     account = kept.account;
   }
 
-  -- an exchange that is passed over
-  passed : (low fronts : SyncToken) (client : Option (Client V)) → is_before low fronts ≡ true → KeptIf low client → KeptIf fronts client
-  passed low fronts None up kept = tt
-  passed low fronts (Some c) up kept =
-      record {
-        turns = kept.turns;
-        taken = kept.taken;
-        comes = kept.comes;
-        based = kept.based;
-        reached = before_trans c.token low fronts kept.reached up;
-        account = kept.account;
-      }
-
-  module _ (here : Lists) (mark : here ≡ upto (fronts_of here) final) (low : SyncToken) (up : is_before low (fronts_of here) ≡ true) where
+  module _ (here : Lists) (mark : here ≡ upto (fronts_of here) final) where
     abbrev fronts : SyncToken
     fronts = fronts_of here
 
@@ -149,7 +136,7 @@ module _ {V D : Type 0} (w : Server V D) (h : Histories) (lawful : AreLawful h) 
           ap (λ (l : Lists). account_sent w l.accounts user f since fronts.a) mark
           ∙ account_at_mark w final.accounts (accounts_stand h lawful) user f since fronts.a
 
-    begins : (extent : Extent) → Kept fronts (after_reply w user f None 0 (nothing_held V) (λ kind. None) extent.after (reply None extent refl))
+    begins : (extent : Extent) → Kept (after_reply w user f None 0 (nothing_held V) (λ kind. None) extent.after (reply None extent refl))
     begins extent = record {
       turns = Synced (sync_in f extent) (heroes None extent refl) (next None extent refl) ∷ [];
       taken = (tt, tt);
@@ -157,18 +144,17 @@ module _ {V D : Type 0} (w : Server V D) (h : Histories) (lawful : AreLawful h) 
           let rooms = taken_in None extent refl refl (nothing_held V) in
           λ i. record { token = Some (next None extent refl); base = fronts.e; front = max 0 fronts.e; rooms = λ room. rooms room i };
       based = omega arith;
-      reached = next_before None fronts;
       account =
           λ kind. option_or-none (content_at kind (reply None extent refl).account) ∙ ap (content_at kind) (account_is None extent refl)
           ∙ account_new w user f kind final.accounts fronts.a;
     }
 
-    goes_on : (extent : Extent) (c : Client V) (behind : is_behind (Some c.token) fronts ≡ true) → Kept low c
-        → Kept fronts (after_reply w user f (Some c.token) c.front c.rooms c.account extent.after (reply (Some c.token) extent behind))
+    goes_on : (extent : Extent) (c : Client V) (behind : is_behind (Some c.token) fronts ≡ true) → Kept c
+        → Kept (after_reply w user f (Some c.token) c.front c.rooms c.account extent.after (reply (Some c.token) extent behind))
     goes_on extent c behind kept =
         let since : Option SyncToken = Some c.token in
         let ends : SyncToken = next (Some c.token) extent behind in
-        let parts = before_parts c.token fronts (before_trans c.token low fronts kept.reached up) in
+        let parts = before_parts c.token fronts behind in
         let rises : c.token.e ≤ fronts.e = parts.0 in
         let reaches : c.token.a ≤ fronts.a = parts.2 in
         let rooms = taken_in since extent behind kept.based c.rooms in
@@ -181,14 +167,13 @@ module _ {V D : Type 0} (w : Server V D) (h : Histories) (lawful : AreLawful h) 
           taken = are_more tokens stories nobody kept.turns turn kept.taken (subst (λ d. IsTurn tokens d turn) kept.comes behind);
           comes = after ∙ ap (λ d. after_turn tokens stories d turn) kept.comes ∙ sym (turns_more tokens stories nobody kept.turns turn);
           based = let low' : c.token.b ≤ c.token.e = kept.based in omega (arith, low', rises);
-          reached = next_before since fronts;
           account = λ kind.
               ap (λ ps. option_or (content_at kind ps) (c.account kind)) (account_is since extent behind)
               ∙ account_more w user f kind final.accounts (accounts_stand h lawful) c.token fronts.a (c.account kind) reaches (kept.account kind);
         }
 
-    replied : (extent : Extent) (client : Option (Client V)) (since : Option SyncToken) (behind : is_behind since fronts ≡ true) → KeptIf low client
-        → KeptIf fronts (with_reply w user f client since extent.after (reply since extent behind))
+    replied : (extent : Extent) (client : Option (Client V)) (since : Option SyncToken) (behind : is_behind since fronts ≡ true) → KeptIf client
+        → KeptIf (with_reply w user f client since extent.after (reply since extent behind))
     replied extent None None behind kept = begins extent
     replied extent (Some c) None behind kept = begins extent
     replied extent None (Some since) behind kept = tt
@@ -196,9 +181,9 @@ module _ {V D : Type 0} (w : Server V D) (h : Histories) (lawful : AreLawful h) 
         elim (cases_Bool (same_token c.token since)) [
           | inl same ↦ rw same (
               subst (λ s. (b : is_behind (Some s) fronts ≡ true)
-              → Kept fronts (after_reply w user f (Some s) c.front c.rooms c.account extent.after (reply (Some s) extent b))) (same_is c.token since same)
+              → Kept (after_reply w user f (Some s) c.front c.rooms c.account extent.after (reply (Some s) extent b))) (same_is c.token since same)
               (λ b. goes_on extent c b kept) behind)
-          | inr other ↦ rw other (passed low fronts (Some c) up kept)
+          | inr other ↦ rw other kept
         ]
 
     -- ---- a page
@@ -223,22 +208,20 @@ module _ {V D : Type 0} (w : Server V D) (h : Histories) (lawful : AreLawful h) 
         ∙ ap (λ pg. with_page (stories x).room gap.gap gap.before gap.behind pg p.0.state) there in
         λ i. record { joined = option_map (λ (p : ClientRoom Event Key × V). (read p i, p.1)) had.joined; invited = had.invited }
 
-    pages : (asks : PageAsk) (c : Client V) → sieves.fits f asks.filter ≡ true → Kept low c → (o : Option (Opening Event))
+    pages : (asks : PageAsk) (c : Client V) → sieves.fits f asks.filter ≡ true → c.token.e ≤ fronts.e → Kept c → (o : Option (Opening Event))
         → opening_of w user f asks (c.rooms asks.room) ≡ o
-        → Kept fronts (with_gap w user f fronts.e asks.room c (page_asked w here user asks) o)
-    pages asks c fits kept None none = passed low fronts (Some c) up kept
-    pages asks c fits kept (Some gap) some =
+        → Kept (with_gap w user f fronts.e asks.room c (page_asked w here user asks) o)
+    pages asks c fits past kept None none = kept
+    pages asks c fits past kept (Some gap) some =
         let room = asks.room in
         let page = page_asked w here user asks in
         let found = found_in (asked_gap asks) (c.rooms room).joined gap some in
         let p : ClientRoom Event Key × V = found.0 in
         let joined : (c.rooms room).joined ≡ Some p = found.1 in
         let at : Found (asked_gap asks) p.0.timeline gap = found.2 in
-        let agrees = rooms_agree low c kept in
+        let agrees = rooms_agree c kept in
         let rises = rises_in tokens (stories room) c.token.b c.token c.front (standing (stories room) c.token.e) (c.rooms room) p joined (agrees room) in
         let within = gap_within position_of c.token.e (asked_gap asks) p.0.timeline gap at rises in
-        let reached = before_trans c.token low fronts kept.reached up in
-        let past : c.token.e ≤ fronts.e = (before_parts c.token fronts reached).0 in
         let cut_in : asks.from_cut ≤ c.token.e = within.0 in
         let order : to_at asks.to ≤ asks.from_at = within.1 in
         let upper_in : asks.from_at ≤ c.token.e = within.2 in
@@ -257,88 +240,167 @@ module _ {V D : Type 0} (w : Server V D) (h : Histories) (lawful : AreLawful h) 
           taken = are_more tokens stories nobody kept.turns turn kept.taken (subst (λ d. IsTurn tokens d turn) kept.comes is_turn);
           comes = after ∙ ap (λ d. after_turn tokens stories d turn) kept.comes ∙ sym (turns_more tokens stories nobody kept.turns turn);
           based = kept.based;
-          reached = reached;
           account = kept.account;
         }
 
-    shown : (asks : PageAsk) (client : Option (Client V)) → sieves.fits f asks.filter ≡ true → KeptIf low client
-        → KeptIf fronts (with_shown w user f fronts.e asks (page_asked w here user asks) client)
-    shown asks None fits kept = tt
-    shown asks (Some c) fits kept = pages asks c fits kept (opening_of w user f asks (c.rooms asks.room)) refl
+    shown : (asks : PageAsk) (client : Option (Client V)) → sieves.fits f asks.filter ≡ true → ReachesToken fronts.e client → KeptIf client
+        → KeptIf (with_shown w user f fronts.e asks (page_asked w here user asks) client)
+    shown asks None fits reaches kept = tt
+    shown asks (Some c) fits reaches kept = pages asks c fits reaches kept (opening_of w user f asks (c.rooms asks.room)) refl
 
     -- ---- an answer to the device
 
-    syncs : (asks : SyncAsk) (client : Option (Client V)) → KeptIf low client → (b : Bool) → is_behind asks.since fronts ≡ b
-        → KeptIf fronts (with_said w user f fronts.e (cond b (Replied asks (reply_of w here user asks)) PassedOver) client)
-    syncs asks client kept false ahead = passed low fronts client up kept
+    syncs : (asks : SyncAsk) (client : Option (Client V)) → KeptIf client → (b : Bool) → is_behind asks.since fronts ≡ b
+        → KeptIf (with_said w user f fronts.e (cond b (Replied asks (reply_of w here user asks)) PassedOver) client)
+    syncs asks client kept false ahead = kept
     syncs asks client kept true behind =
         elim (cases_Bool (sieves.same_filter asks.filter f)) [
           | inl same ↦ rw same (
-              subst (λ g. KeptIf fronts
+              subst (λ g. KeptIf
               (with_reply w user f client asks.since asks.extent.after
               (reply_of w here user (record { filter = g; since = asks.since; extent = asks.extent })))) (sym (filters_are asks.filter f same))
               (replied asks.extent client asks.since behind kept))
-          | inr other ↦ rw other (passed low fronts client up kept)
+          | inr other ↦ rw other kept
         ]
 
-    paged : (asks : PageAsk) (client : Option (Client V)) → KeptIf low client → (b : Bool)
-        → KeptIf fronts (with_said w user f fronts.e (cond b (Showed asks (page_asked w here user asks)) PassedOver) client)
-    paged asks client kept false = passed low fronts client up kept
-    paged asks client kept true =
+    paged : (asks : PageAsk) (client : Option (Client V)) → KeptIf client → (b : Bool)
+        → Reaches {V = V} {D = D} f fronts.e (cond b (Showed asks (page_asked w here user asks)) PassedOver) client
+        → KeptIf (with_said w user f fronts.e (cond b (Showed asks (page_asked w here user asks)) PassedOver) client)
+    paged asks client kept false reaches = kept
+    paged asks client kept true reaches =
         elim (cases_Bool (sieves.fits f asks.filter)) [
-          | inl fits ↦ rw fits (shown asks client fits kept)
-          | inr other ↦ rw other (passed low fronts client up kept)
+          | inl fits ↦ rw fits (shown asks client fits (reaches fits) kept)
+          | inr other ↦ rw other kept
         ]
 
-    answered : (asks : Ask) (memory : Bool) (client : Option (Client V)) → KeptIf low client
-        → KeptIf fronts (with_said w user f fronts.e (cond memory PassedOver (answer_to w here user asks)) client)
-    answered asks true client kept = passed low fronts client up kept
-    answered (Syncs asks) false client kept = syncs asks client kept (is_behind asks.since fronts) refl
-    answered (Pages asks) false client kept =
-        paged asks client kept (sees_room w here user asks.room && (nat_le asks.from_cut fronts.e && is_behind asks.to fronts))
-    answered Else false client kept = passed low fronts client up kept
+    answered : (asks : Ask) (memory : Bool) (client : Option (Client V)) → KeptIf client
+        → Reaches {V = V} {D = D} f fronts.e (cond memory PassedOver (answer_to w here user asks)) client
+        → KeptIf (with_said w user f fronts.e (cond memory PassedOver (answer_to w here user asks)) client)
+    answered asks true client kept reaches = kept
+    answered (Syncs asks) false client kept reaches = syncs asks client kept (is_behind asks.since fronts) refl
+    answered (Pages asks) false client kept reaches =
+        paged asks client kept (sees_room w here user asks.room && (nat_le asks.from_cut fronts.e && is_behind asks.to fronts)) reaches
+    answered Else false client kept reaches = kept
 
--- ---- the exchanges
+-- ---- the exchanges, in any order
 
-rise_to : (h : Histories) (n m : Counts) → AreFewer n m → is_before (fronts_of (lists_at n h)) (fronts_of (lists_at m h)) ≡ true
+module _ {V D : Type 0} (w : Server V D) (h : Histories) (lawful : AreLawful h) (rests : RestsFold w (lists_of h))
+    (device : ℕ) (f : Selection) (folds : sieves.folds f ≡ true) where
+  abbrev IsKept : Option (Client V) → Type 0
+  IsKept client = KeptIf w h lawful rests (w.user_of device) f folds client
+
+  one_more : (a : ℕ × Ask) (mark : Mark) (client : Option (Client V)) → IsKept client
+      → (nat_eq a.0 device ≡ true → Reaches f (fronts_of (lists_at mark.stores h)).e (exchange_at w h a mark).said client)
+      → IsKept (cond (nat_eq a.0 device) (with_said w (w.user_of device) f (fronts_of (lists_at mark.stores h)).e (exchange_at w h a mark).said client) client)
+  one_more a mark client kept reaches =
+      let here : Lists = lists_at mark.stores h in
+      elim (cases_Bool (nat_eq a.0 device)) [
+        | inl mine ↦ rw mine (
+            subst (λ d. Reaches f (fronts_of here).e (cond mark.memory PassedOver (answer_to w here (w.user_of d) a.1)) client
+            → IsKept (with_said w (w.user_of device) f (fronts_of here).e (cond mark.memory PassedOver (answer_to w here (w.user_of d) a.1)) client))
+            (sym (eqb-true a.0 device mine))
+            (answered w h lawful rests (w.user_of device) f folds here (mark_upto h mark.stores) a.1 mark.memory client kept)
+            (reaches mine))
+        | inr other ↦ rw other kept
+      ]
+
+  any_agree : (client : Option (Client V)) (asked : List (ℕ × Ask)) (marks : List Mark) → IsKept client
+      → PagesReach w device f client (exchanges w h asked marks)
+      → IfSome (chain w device f client (exchanges w h asked marks)) (Agrees w (w.user_of device) f (lists_of h))
+  any_agree client [] marks kept reach = agrees_from w h lawful rests (w.user_of device) f folds client kept
+  any_agree client (a ∷ asked) [] kept reach = agrees_from w h lawful rests (w.user_of device) f folds client kept
+  any_agree client (a ∷ asked) (mark ∷ marks) kept reach =
+      any_agree (after_exchange w device f (exchange_at w h a mark) client) asked marks (one_more a mark client kept reach.0) reach.1
+
+pub clients_agree : {V D : Type 0} → ClientsAgree V D
+clients_agree w h lawful rests asked marks device f folds reach = any_agree w h lawful rests device f folds None asked marks tt reach
+
+-- ---- the exchanges of one connection
+
+pub rise_to : (h : Histories) (n m : Counts) → AreFewer n m → is_before (fronts_of (lists_at n h)) (fronts_of (lists_at m h)) ≡ true
 rise_to h n m few =
     before_from (fronts_of (lists_at n h)) (fronts_of (lists_at m h)) (front_rises n.events m.events h.events few.events)
     (front_rises n.receipts m.receipts h.receipts few.receipts)
     (front_rises n.accounts m.accounts h.accounts few.accounts) (omega arith)
 
-module _ {V D : Type 0} (w : Server V D) (h : Histories) (lawful : AreLawful h) (rests : RestsFold w (lists_of h))
-    (device : ℕ) (f : Selection) (folds : sieves.folds f ≡ true) where
+module _ {V D : Type 0} (w : Server V D) (user : List ℕ) (f : Selection) where
+  -- the client's token lies at or before these high
+  abbrev pub IsWithin : SyncToken → Option (Client V) → Type 0
+  IsWithin high None = ⊤
+  IsWithin high (Some c) = is_before c.token high ≡ true
+
+  pub within_later : (low high : SyncToken) (client : Option (Client V)) → is_before low high ≡ true → IsWithin low client → IsWithin high client
+  within_later low high None up is = tt
+  within_later low high (Some c) up is = before_trans c.token low high is up
+
+  pub reaches_within : (high : SyncToken) (said : Said V D) (client : Option (Client V)) → IsWithin high client → Reaches f high.e said client
+  reaches_within high (Replied asks r) client is = tt
+  reaches_within high (Showed asks page) None is = λ fits. tt
+  reaches_within high (Showed asks page) (Some c) is = λ fits. (before_parts c.token high is).0
+  reaches_within high PassedOver client is = tt
+
+  module _ (high : SyncToken) where
+    reply_within : (client : Option (Client V)) (since : Option SyncToken) (after : Bool) (r : Reply V D) → is_before r.next high ≡ true
+        → IsWithin high client → IsWithin high (with_reply w user f client since after r)
+    reply_within None None after r next is = next
+    reply_within (Some c) None after r next is = next
+    reply_within None (Some since) after r next is = tt
+    reply_within (Some c) (Some since) after r next is = elim (cases_Bool (same_token c.token since)) [
+      | inl same ↦ rw same next
+      | inr other ↦ rw other is
+    ]
+
+    gap_stays_within : (front : ℕ) (room : RoomId) (c : Client V) (page : Page Event) (o : Option (Opening Event)) → is_before c.token high ≡ true
+        → is_before (with_gap w user f front room c page o).token high ≡ true
+    gap_stays_within front room c page None is = is
+    gap_stays_within front room c page (Some o) is = is
+
+    shown_within : (asks : PageAsk) (page : Page Event) (client : Option (Client V)) → IsWithin high client
+        → IsWithin high (with_shown w user f high.e asks page client)
+    shown_within asks page None is = tt
+    shown_within asks page (Some c) is = gap_stays_within high.e asks.room c page (opening_of w user f asks (c.rooms asks.room)) is
+
+  pub said_within : (here : Lists) (asker : List ℕ) (asks : Ask) (memory : Bool) (client : Option (Client V)) → IsWithin (fronts_of here) client
+      → IsWithin (fronts_of here) (with_said w user f (fronts_of here).e (cond memory PassedOver (answer_to w here asker asks)) client)
+  said_within here asker asks true client is = is
+  said_within here asker (Syncs asks) false client is = elim (cases_Bool (is_behind asks.since (fronts_of here))) [
+    | inl behind ↦ rw behind (elim (cases_Bool (sieves.same_filter asks.filter f)) [
+      | inl same ↦ rw same (reply_within (fronts_of here) client asks.since asks.extent.after (reply_of w here asker asks) (next_before asks.since (fronts_of here)) is)
+      | inr other ↦ rw other is
+    ])
+    | inr ahead ↦ rw ahead is
+  ]
+  said_within here asker (Pages asks) false client is =
+      by (sees_room w here asker asks.room && (nat_le asks.from_cut (fronts_of here).e && is_behind asks.to (fronts_of here))) where
+    by : (b : Bool) → IsWithin (fronts_of here) (with_said w user f (fronts_of here).e (cond b (Showed asks (page_asked w here asker asks)) PassedOver) client)
+    by false = is
+    by true = elim (cases_Bool (sieves.fits f asks.filter)) [
+      | inl fits ↦ rw fits (shown_within (fronts_of here) asks (page_asked w here asker asks) client is)
+      | inr other ↦ rw other is
+    ]
+  said_within here asker Else false client is = is
+
+module _ {V D : Type 0} (w : Server V D) (h : Histories) (device : ℕ) (f : Selection) where
   abbrev fronts_at : Counts → SyncToken
   fronts_at n = fronts_of (lists_at n h)
 
-  abbrev IsKept : SyncToken → Option (Client V) → Type 0
-  IsKept fronts client = KeptIf w h lawful rests (w.user_of device) f folds fronts client
-
-  one_more : (low : Counts) (a : ℕ × Ask) (mark : Mark) (client : Option (Client V)) → AreFewer low mark.stores → IsKept (fronts_at low) client
-      → IsKept (fronts_at mark.stores)
-      (cond (nat_eq a.0 device) (with_said w (w.user_of device) f (fronts_at mark.stores).e (exchange_at w h a mark).said client) client)
-  one_more low a mark client few kept =
-      let here : Lists = lists_at mark.stores h in
-      let up = rise_to h low mark.stores few in
-      elim (cases_Bool (nat_eq a.0 device)) [
-        | inl mine ↦ rw mine (
-            subst (λ d. IsKept (fronts_at mark.stores)
-            (with_said w (w.user_of device) f (fronts_of here).e (cond mark.memory PassedOver (answer_to w here (w.user_of d) a.1)) client))
-            (sym (eqb-true a.0 device mine))
-            (answered w h lawful rests (w.user_of device) f folds here (mark_upto h mark.stores) (fronts_at low) up a.1 mark.memory client kept))
-        | inr other ↦ rw other (passed w h lawful rests (w.user_of device) f folds (fronts_at low) (fronts_at mark.stores) client up kept)
-      ]
-
-  all_agree : (low : Counts) (client : Option (Client V)) (asked : List (ℕ × Ask)) (marks : List Mark)
-      → MarksRise low marks (counts_of h) → IsKept (fronts_at low) client
-      → IfSome (chain w device f client (exchanges w h asked marks)) (Agrees w (w.user_of device) f (lists_of h))
-  all_agree low client [] marks rise kept = agrees_from w h lawful rests (w.user_of device) f folds (fronts_at low) client kept
-  all_agree low client (a ∷ asked) [] rise kept = agrees_from w h lawful rests (w.user_of device) f folds (fronts_at low) client kept
-  all_agree low client (a ∷ asked) (mark ∷ marks) rise kept =
-      all_agree mark.stores
-      (cond (nat_eq a.0 device)
-      (with_said w (w.user_of device) f (fronts_at mark.stores).e (exchange_at w h a mark).said client) client) asked marks rise.1
-      (one_more low a mark client rise.0 kept)
+  -- where each mark's lists begin the next one's, each page's lists reach the client's token
+  all_reach : (low : Counts) (client : Option (Client V)) (asked : List (ℕ × Ask)) (marks : List Mark) → MarksRise low marks (counts_of h)
+      → IsWithin w (w.user_of device) f (fronts_at low) client → PagesReach w device f client (exchanges w h asked marks)
+  all_reach low client [] marks rise is = tt
+  all_reach low client (a ∷ asked) [] rise is = tt
+  all_reach low client (a ∷ asked) (mark ∷ marks) rise is =
+      let later : IsWithin w (w.user_of device) f (fronts_at mark.stores) client =
+      within_later w (w.user_of device) f (fronts_at low) (fronts_at mark.stores) client (rise_to h low mark.stores rise.0) is in (
+        λ mine. reaches_within w (w.user_of device) f (fronts_at mark.stores) (exchange_at w h a mark).said client later,
+        all_reach mark.stores (after_exchange w device f (exchange_at w h a mark) client) asked marks rise.1 (by (nat_eq a.0 device) later),
+      ) where
+    by : (b : Bool) → IsWithin w (w.user_of device) f (fronts_at mark.stores) client
+        → IsWithin w (w.user_of device) f (fronts_at mark.stores)
+        (cond b (with_said w (w.user_of device) f (fronts_at mark.stores).e (exchange_at w h a mark).said client) client)
+    by true later = said_within w (w.user_of device) f (lists_at mark.stores h) (w.user_of a.0) a.1 mark.memory client later
+    by false later = later
 
 pub connections_agree : {V D : Type 0} → ConnectionsAgree V D
-connections_agree w h lawful rests asked marks rise device f folds = all_agree w h lawful rests device f folds no_stores None asked marks rise tt
+connections_agree w h lawful rests asked marks rise device f folds =
+    clients_agree w h lawful rests asked marks device f folds (all_reach w h device f no_stores None asked marks rise tt)
