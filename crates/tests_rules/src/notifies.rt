@@ -82,11 +82,11 @@ fn state(rt: &impl Abort, alloc: Global) -> AuthState {
     state
 }
 
-/// `Al Name` in that room, with the default rules.
-fn al_name(rt: &impl Abort, alloc: Global) -> Owner {
+/// The user of a display name in that room, with the default rules.
+fn named(rt: &impl Abort, alloc: Global, name: &str) -> Owner {
     Owner {
         user: al(rt, alloc),
-        name: text(rt, alloc, "Al Name"),
+        name: text(rt, alloc, name),
         rules: default_rules(rt, alloc),
         state: state(rt, alloc),
     }
@@ -121,7 +121,12 @@ fn all_said(rt: &impl Abort, alloc: Global, owner: &Owner, rows: &str) -> bool {
 
 /// Whether the default rules with those of `puts` say of each event of `rows` what its row says.
 fn are_said(rt: &impl Abort, alloc: Global, puts: &str, rows: &str) -> bool {
-    let mut owner = al_name(rt, alloc);
+    are_said_to(rt, alloc, "Al Name", puts, rows)
+}
+
+/// The same for a user of another display name.
+fn are_said_to(rt: &impl Abort, alloc: Global, name: &str, puts: &str, rows: &str) -> bool {
+    let mut owner = named(rt, alloc, name);
     put_all(rt, alloc, &mut owner.rules, puts);
     let right = all_said(rt, alloc, &owner, rows);
     mem::forget(owner);
@@ -152,7 +157,11 @@ fn each_default_rule_has_its_event(rt: HostRuntime) {
         ["m.room.message", null, "@bo:example.org", {"body":"malice"}, 3, "notify"],
         ["m.call.invite", null, "@bo:example.org", {}, 3, "notify"],
         ["m.room.message", null, "@bo:example.org", {}, 2, "notify"],
-        ["m.room.topic", "", "@bo:example.org", {}, 2, ""]
+        ["m.room.topic", "", "@bo:example.org", {}, 2, ""],
+        ["m.room.message", null, "@bo:example.org", {"body":"oh, Al Name!","m.mentions":{}}, 3, "notify"],
+        ["m.room.message", null, "@bo:example.org", {"body":"now @room!","m.mentions":{}}, 3, "notify"],
+        ["m.room.message", null, "@bo:example.org", {"m.mentions":{"room":false}}, 3, "notify"],
+        ["m.room.topic", "", "@bo:example.org", {"body":"oh, xAl Name"}, 3, ""]
     ]"#;
     assert!(&rt; are_said(&rt, rt.alloc(), "[]", rows));
 }
@@ -228,6 +237,41 @@ fn a_sender_may_notify_by_the_level_of_the_key(rt: HostRuntime) {
         ["org.example.team", null, "@cy:example.org", {}, 3, ""],
         ["m.room.message", null, "@bo:example.org", {"m.mentions":{"room":true}}, 3, "highlight"],
         ["m.room.message", null, "@di:example.org", {"m.mentions":{"room":true}}, 3, "notify"]
+    ]"#;
+    assert!(&rt; are_said(&rt, rt.alloc(), puts, rows));
+}
+
+#[test]
+fn a_name_stands_between_word_boundaries(rt: HostRuntime) {
+    let puts = r#"[["content", "al", {"actions":[],"pattern":"al"}]]"#;
+    let rows = r#"[
+        ["m.room.topic", "", "@bo:example.org", {"body":"oh, Al Name"}, 3, "highlight"],
+        ["m.room.topic", "", "@bo:example.org", {"body":"oh, Al Names"}, 3, ""]
+    ]"#;
+    assert!(&rt; are_said(&rt, rt.alloc(), puts, rows));
+    let unnamed = r#"[["m.room.topic", "", "@bo:example.org", {"body":"oh"}, 3, ""]]"#;
+    assert!(&rt; are_said_to(&rt, rt.alloc(), "", puts, unnamed));
+}
+
+#[test]
+fn a_count_stands_by_its_sign(rt: HostRuntime) {
+    let puts = r#"[
+        ["override", "le", {"actions":["notify"],"conditions":[{"kind":"room_member_count","is":"<=3"},{"kind":"event_match","key":"type","pattern":"a.le"}]}],
+        ["override", "gt", {"actions":["notify"],"conditions":[{"kind":"room_member_count","is":">3"},{"kind":"event_match","key":"type","pattern":"a.gt"}]}],
+        ["override", "ge", {"actions":["notify"],"conditions":[{"kind":"room_member_count","is":">=3"},{"kind":"event_match","key":"type","pattern":"a.ge"}]}],
+        ["override", "eq", {"actions":["notify"],"conditions":[{"kind":"room_member_count","is":"==3"},{"kind":"event_match","key":"type","pattern":"a.eq"}]}],
+        ["override", "loud", {"actions":["notify",{"set_tweak":"highlight","value":true}],"conditions":[{"kind":"event_match","key":"type","pattern":"A.LOUD"}]}]
+    ]"#;
+    let rows = r#"[
+        ["a.le", null, "@bo:example.org", {}, 3, "notify"],
+        ["a.le", null, "@bo:example.org", {}, 4, ""],
+        ["a.gt", null, "@bo:example.org", {}, 3, ""],
+        ["a.gt", null, "@bo:example.org", {}, 4, "notify"],
+        ["a.ge", null, "@bo:example.org", {}, 3, "notify"],
+        ["a.ge", null, "@bo:example.org", {}, 2, ""],
+        ["a.eq", null, "@bo:example.org", {}, 3, "notify"],
+        ["a.eq", null, "@bo:example.org", {}, 2, ""],
+        ["a.loud", null, "@bo:example.org", {}, 3, "highlight"]
     ]"#;
     assert!(&rt; are_said(&rt, rt.alloc(), puts, rows));
 }
