@@ -1,4 +1,14 @@
-//! Filters of syncs and pages: which rooms they pick, and what passes (Client-Server API, Filtering).
+//! Filters of syncs and pages (Client-Server API, Filtering): which rooms they pick, and what passes.
+//!
+//! The calls are `read` and `read_part`: the filter that an object says, of a sync or of a page, or which known field
+//! is the first of a wrong type; fields that aren't known have no effect. `everything` is the filter of a request
+//! that has none. `Filter::picks`, `passes` and `passes_type` answer as their definitions say whether a room is
+//! picked and whether an event, account data or a receipt passes. They take no memory.
+//!
+//! The laws join filters to the folding law: `folds_by_type` says which filters pick state by type and room alone,
+//! and `pages_fit` which page filters let pass what a sync's timeline does.
+//!
+//! Begin with `parts.rt`, which is the type, then `reading.rt` and `passes.rt` with `specs/Passes.antt`.
 #![tactic(auto)]
 
 mod checks;

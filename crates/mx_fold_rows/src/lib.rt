@@ -1,5 +1,12 @@
-//! Worked values of the definitions of replies, pages and chains, computed by the checker over literal events. They pin what
-//! the folding law alone doesn't: each row is a law that one wrong reading of a room breaks. The crate has no code that runs.
+//! Worked values of the definitions of replies, pages and chains, computed by the checker over literal events. They
+//! pin what the folding law alone doesn't: each row is a law that one wrong reading of a room breaks. The crate has
+//! no code that runs.
+//!
+//! Each function of `rows.rt` has an empty body, and its clauses are the rows: limits and breaks, stays, visibility,
+//! redactions, lazy members, chains of two devices over one connection, account data. `specs/` has the literal events
+//! (`specs/Events.antt`) and what each row says.
+//!
+//! Begin with `rows.rt`, then `specs/Limits.antt`.
 #![tactic(auto)]
 
 mod rows;

@@ -1,5 +1,16 @@
-//! A stream that runs: several writers draw blocks of positions without waiting for one another and store them in any
-//! order, and what each reader has seen is the beginning of one history.
+//! A running stream: several writers draw blocks of positions without waiting for one another and store them in any
+//! order, and readers look at what is stored up to the front.
+//!
+//! A [`Pen`] is the right to store for one writer: `draw`, `reserve` and `finish` of [`Stream`] are its calls. A
+//! [`Pass`] is a reader: `look` gives it the items up to a front, `glance` lets it see as much without them, and
+//! `note` and `meet` let it see what a pen or another pass has seen.
+//!
+//! The law is `seats_see_one_history`: between any two steps, whatever the interleaving of the threads, there is one
+//! history, a state that a run of `mx_core`'s machine reaches. What each pen and pass has seen begins it, and the
+//! front of what is seen covers no unfinished write. `steps_keep_history` says that it only grows.
+//!
+//! Begin with `handles.rt` (pens and passes), then `writing.rt` and `reading.rt` for the calls; `specs/World.antt`
+//! has the rule that every step keeps, and `specs/Laws.antt` the laws.
 #![tactic(auto)]
 
 mod board;

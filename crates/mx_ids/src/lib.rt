@@ -1,4 +1,16 @@
-//! The texts, lists, ids and tokens that every other crate of mxsync stands on.
+//! The texts, lists, ids and tokens on which every other crate of mxsync stands.
+//!
+//! [`Text`] and [`Seq`] are a text and a list that contracts see as their bytes and items; what grows answers
+//! [`Memory`] where an allocation is refused, and is then as it was. [`Copied`] is a value of which an equal one can
+//! be made.
+//!
+//! The contract of the readers and writers is that each id and token has one text: `read_sync_token` answers a token
+//! exactly where the text is that of a token in range, `write_sync_token` appends just this text, and no two tokens
+//! have one text. The same holds of page tokens, room ids and event ids (Appendices, Identifier Grammar).
+//! `is_user_id` holds exactly of user ids.
+//!
+//! Begin with `sync_token.rt`, whose definitions are in `specs/Sync.antt`; `text.rt` shows how contracts see a type
+//! of this repository.
 #![tactic(auto)]
 
 mod characters;

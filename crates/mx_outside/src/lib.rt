@@ -1,12 +1,16 @@
-//! The outside of the program, as values that a contract can speak of: a [`Source`] of bytes, a
-//! [`Sink`] of bytes, the [`Files`] that are read by name, a [`Listener`] for connections and a
-//! [`Spawner`] of jobs. Each counts its faults, and answers that it failed only in a call in which that
-//! count rose. A [`Clock`] can't fail.
+//! The outside of the program, as values that a contract can speak of: a [`Source`] of bytes, a [`Sink`] of bytes,
+//! the [`Files`] that are read by name, a [`Listener`] for connections, a [`Spawner`] of jobs and a [`Clock`].
 //!
-//! Each has a form in memory ([`MemSource`], [`MemSink`], [`MemFiles`], [`MemListener`], [`StepClock`]), whose
-//! calls fail where the caller lists them, and an adapter to the system ([`StdIn`], [`StdOut`], [`StdErr`],
-//! [`HostFiles`], [`TcpAccept`], [`HostClock`]), of which no contract can say what the system gives or takes. A
-//! spawner of either kind is one type.
+//! Each but the clock counts its faults, and answers that it failed only in a call in which that count rose, or
+//! stands at its last value. Where a source tells what is left to come, a call gives its beginning; where a sink
+//! tells what was written, it has just the bytes that it was given. A clock can't fail.
+//!
+//! Each has a form in memory ([`MemSource`], [`MemSink`], [`MemFiles`], [`MemListener`], [`StepClock`]), whose calls
+//! fail where the caller lists them, and an adapter to the system ([`StdIn`], [`StdOut`], [`StdErr`], [`HostFiles`],
+//! [`TcpAccept`], [`HostClock`]), of which no contract can say what the system gives or takes. A spawner of either
+//! kind is one type.
+//!
+//! Begin with `source.rt`: a trait with its counts, of which the other traits are variations.
 #![tactic(auto)]
 
 mod calls;

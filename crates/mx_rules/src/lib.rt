@@ -1,4 +1,16 @@
-//! The push rules of a user: how they are changed, and their JSON, written and read.
+//! The push rules of a user (Client-Server API, Push rules): kind by kind, each with its id, in the order in which
+//! they are tried.
+//!
+//! The type is [`RuleSet`]. Each of its changes, `put`, `remove`, `set_enabled` and `set_actions`, gives the rules
+//! that its definition says, or the first fault in their order, and then the rules are as they were. `defaults` are
+//! the predefined rules.
+//!
+//! `to_json` and `from_json` are the content of `m.push_rules`. The laws `content_reads_back` and
+//! `content_is_written` say that they are inverse: a content that is read is just the one that is written of the
+//! rules it says.
+//!
+//! Begin with `rule_set.rt` and `specs/Edits.antt`; `rule.rt` has the types of the kinds, `fault.rt` the faults in
+//! their order.
 #![tactic(auto)]
 
 mod body;

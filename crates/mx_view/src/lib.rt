@@ -1,5 +1,14 @@
-//! Rooms as users see them: how the events of a room are read, what a filter keeps of them, how they are shown, and what
-//! a reply and a picture say of a room. The crate has definitions and laws, and no code that runs.
+//! Rooms as users see them: how the events of a room are read, what a filter keeps of them, how they are shown, and
+//! what a reply and a picture say of a room. The crate has definitions and laws, and no code that runs.
+//!
+//! It is the folding law's room (`mx_folding`) over events as they are stored (`mx_event`). The law is
+//! `valid_is_story`: a valid list of a room's events is a room of the folding law, whatever the filter and the user;
+//! so `valid_folds` holds of it. `same_told` and `same_paged` say that a reply and a page at a front are the same
+//! over a list that goes on.
+//!
+//! Each law is the contract of a function with an empty body.
+//!
+//! Begin with `specs/Rooms.antt` and `specs/Valid.antt`, then `laws.rt`.
 #![tactic(auto)]
 
 mod laws;

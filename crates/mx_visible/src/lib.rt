@@ -1,5 +1,13 @@
-//! Which events of a room a user may see (Client-Server API, Room History Visibility): of one event, and of a stretch of a
-//! room in one walk.
+//! Which events of a room a user may see (Client-Server API, Room History Visibility).
+//!
+//! The call is `visible`: whether a user sees an event of its room at a front, by the history visibility and the
+//! user's memberships at the event and up to the front, exactly as the definition of `mx_folding` says. `sight` gives
+//! the events of a stretch of a room, each with the same answer, in one walk.
+//!
+//! `membership_of` and `setting_of` read the membership and the visibility that an event gives; `last_join` finds the
+//! user's last join.
+//!
+//! Begin with `readings.rt`, then `visibility.rt`; `specs/Walks.antt` has what `sight` keeps while it walks.
 #![tactic(auto)]
 
 mod joins;

@@ -2,7 +2,10 @@
 //! looks whether there is something for it, and if not rests with that count: the rest ends at once where a wake came
 //! in between, so none is lost between the look and the rest.
 //!
-//! No contract says that a wake comes, nor how long a rest takes.
+//! A rest ends by a wake or by its time. No contract says that a wake comes, nor how long a rest takes. The one law,
+//! `waiters_cross_threads`, is that threads share those who wait.
+//!
+//! Begin with `waiters.rt`, which is the whole crate. `tests_base` has a rest that another thread ends.
 #![tactic(auto)]
 
 mod laws;

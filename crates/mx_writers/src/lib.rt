@@ -1,4 +1,15 @@
-//! Writers of a running stream: each decides on its own stores, draws a block of positions, and stores in it.
+//! The writers of a running stream: each decides on drafts by its own stores, draws a block of positions, and stores
+//! in it.
+//!
+//! The call is `write_in`: one write of one writer. It is decided on the writer's own list as it stands, by the
+//! definition `decides` of the writer's value; where that gives items they are stored as one block, and else nothing
+//! is stored. All memory is taken before the draw, so a block that was drawn is stored. `write_seen` of [`Writers`]
+//! makes the same write in the writer's turn, and lets a pass see it.
+//!
+//! A writer's value is of a type with the trait [`Folds`]: the fold of its own stores, with `prepare` and `commit`. A
+//! [`Gate`] is called between draw and store; tests hold a write there.
+//!
+//! Begin with `folds.rt`, then `writing.rt`. `number.rt` is the smallest such value.
 #![tactic(auto)]
 
 mod answers;
