@@ -1,7 +1,11 @@
-//! Measures what a room costs an engine: with the words `sends EVENTS COUNT` it prints the milliseconds that so many sends take
-//! into a room that has so many events; with `syncs EVENTS COUNT` those of so many syncs, each of the same ten messages that
-//! were sent after so many events, of which the user has sent a receipt for the last; with `unread EVENTS COUNT` those of the same
+//! Measures what a room costs an engine. The program is no part of mxsync: it is built and run by hand.
+//!
+//! With the words `sends EVENTS COUNT` it prints the milliseconds that so many sends take into a room that has so
+//! many events; with `syncs EVENTS COUNT` those of so many syncs, each of the same ten messages that were sent after
+//! so many events, of which the user has sent a receipt for the last; with `unread EVENTS COUNT` those of the same
 //! syncs without a receipt; and with no words nothing. `bench/sends` and `bench/syncs` run it and print ratios.
+//!
+//! Begin with `room.rt`, which makes the room and measures; `words.rt` reads the words.
 #![tactic(auto)]
 
 mod room;

@@ -1,5 +1,9 @@
-//! Measures what reads of a snapshot cost: with the words `READ ITEMS REPEATS` it prints the milliseconds that so many reads
-//! take in streams that have so many items, and with no words nothing. `bench/reads` runs it and prints ratios.
+//! Measures what reads of a snapshot cost. The program is no part of mxsync: it is built and run by hand.
+//!
+//! With the words `READ ITEMS REPEATS` it prints the milliseconds that so many reads take in streams that have so
+//! many items, and with no words nothing. `bench/reads` runs it and prints ratios.
+//!
+//! Begin with `words.rt`, which lists the reads, then `looks.rt` and `advances.rt`; `stock.rt` makes the streams.
 #![tactic(auto)]
 
 mod advances;

@@ -1,5 +1,15 @@
-//! What calls of the Client-Server API have in common: which route a path has, who calls, and why a call is refused before
-//! an engine is asked.
+//! What the calls of the Client-Server API have in common: which route a path has, who calls, and why a call is
+//! refused before an engine is asked.
+//!
+//! The call is `ask_at`: what a call asks by a table of endpoints, exactly by definition, or the first refusal that
+//! applies. An [`Endpoint`] is a path with parameters, its methods, and what a call on it asks; the crates of routes
+//! have one type of endpoints each. `authenticate` finds the caller by the access token (Client-Server API, Using
+//! access tokens), `object_body` and `post_body` read a body, and the rest reads parts of a path and values of a
+//! query.
+//!
+//! [`Refused`] lists the refusals in the order in which they are judged, each with its status, code and text.
+//!
+//! Begin with `endpoint.rt`, then `asked.rt` and `refused.rt`; `specs/Endpoints.antt` has the definition.
 #![tactic(auto)]
 
 mod asked;

@@ -1,5 +1,15 @@
-//! What is read of rooms (Client-Server API, Getting events for a room, and Room membership): the rooms of a user, a room's
-//! state and members, and one event.
+//! What is read of rooms (Client-Server API, Getting events for a room, and Room membership): the rooms of a user, a
+//! room's state and members, and one event.
+//!
+//! The calls are `joined_rooms`, `state_content`, `room_state`, `room_members` and `one_event`, one for each route.
+//! Each is told exactly what its definition says of the lists that the snapshot has: to a user who is joined the
+//! state at the front, to one who left that at which the latest stay ended, each event as it is shown to the user; or
+//! that it isn't there, or that the user has no access.
+//!
+//! `has_room` and `is_joined` are what the refusals ask, and `seen_event` is the event that a text names, if the user
+//! sees it.
+//!
+//! Begin with `places.rt` and `specs/Places.antt`, then `room_states.rt` and `specs/Reads.antt`.
 #![tactic(auto)]
 
 mod contents;

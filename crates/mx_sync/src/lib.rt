@@ -1,4 +1,15 @@
-//! The reply to a sync (Client-Server API, Syncing): what is said of each of the user's rooms, and the user's account data.
+//! The reply to a sync (Client-Server API, Syncing): what is said of each of the user's rooms, and the user's account
+//! data.
+//!
+//! The call is `reply`: the reply to a [`SyncAsk`] on what a snapshot has. It is exactly the one of its definition,
+//! room by room, with each event as the user is shown it; or `TokenAhead` exactly where a position of `since` lies
+//! after its stream's front. A room in which nothing came costs look-ups alone. `Reply::is_empty` is whether there is
+//! nothing to tell.
+//!
+//! The law `replies_are` says that this is *Reply*, the reply of which the laws on chains speak.
+//!
+//! Begin with `sync_ask.rt` and `sync_reply.rt`, which have the types, then `answering.rt` and `specs/Replies.antt`;
+//! `rooms.rt` goes over the rooms.
 #![tactic(auto)]
 
 mod account_data;

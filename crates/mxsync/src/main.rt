@@ -1,4 +1,14 @@
-//! The sync engine of a Matrix homeserver for local users.
+//! The program: the sync engine of a Matrix homeserver for local users (Client-Server API v1.11).
+//!
+//! `main` has no decision of its own. It makes the objects of the system (the files, the standard streams, the clock,
+//! a TCP listener and a spawner of threads), reads the words of the command line, and hands all of them to `run` of
+//! `mx_pool`, whose contract says what the run does. The status of the process is the number of the status of the
+//! run, 0 to 6; a line to standard error says why it isn't 0.
+//!
+//! What no contract covers is what stands in this file and the adapters of `mx_outside`. `main` is only run, on the
+//! sample session.
+//!
+//! Begin with `mx_pool`'s `session.rt`.
 #![tactic(auto)]
 
 use mx_ids::Memory;

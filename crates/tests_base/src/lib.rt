@@ -1,5 +1,11 @@
-//! Tests of the lower crates, through their public items: the outside, waiting, ids and tokens, users, JSON, HTTP, the machine of a
-//! stream and its lanes.
+//! Tests of the lower crates, through their public items: the outside, waiting, ids and tokens, users, JSON, HTTP,
+//! the command line, the machine of a stream and its lanes.
+//!
+//! They show that calls succeed with ample memory, which no contract says, and what the forms in memory and the
+//! adapters to the system do. They call the laws at concrete types besides.
+//!
+//! Begin with `requests.rt`, whose texts are requests with what a reader makes of them, or with `machine.rt`, a run
+//! of three writers.
 #![tactic(auto)]
 
 #[cfg(test)]

@@ -1,4 +1,11 @@
 //! Tests of runs of the program, over sources, sinks and files in memory.
+//!
+//! Most are sessions as tables: a line is a call of a user, and the line below it the answer, status and body. They
+//! show what each route answers, which refusal comes first, how a connection and a run end, and two connections at
+//! once of which one write is held between its draw and its store.
+//!
+//! Begin with `sessions.rt`, which has the form of the tables, then `tables.rt` with `rooms.rt`, and `sync_tables.rt`
+//! with `syncs.rt`. `at_once.rt` has the two connections.
 #![tactic(auto)]
 
 #[cfg(test)]

@@ -1,4 +1,9 @@
-//! Replies to syncs and pages of rooms whose events are valid.
+//! Tests of replies to syncs and of pages, of rooms whose events are valid.
+//!
+//! They show worked values of replies and pages: limits, gaps, lazy members, invites, left rooms, and their JSON. A
+//! room is built event by event, so that the checker knows that its list is valid.
+//!
+//! Begin with `replies.rt`; `built.rt` has how a room is built.
 #![tactic(auto)]
 
 #[cfg(test)]
