@@ -372,12 +372,12 @@ module _ {V D : Type 0} (w : Server V D) (user : List ℕ) (f : Selection) where
   ]
   said_within here asker (Pages asks) false client is =
       by (sees_room w here asker asks.room && (nat_le asks.from_cut (fronts_of here).e && is_behind asks.to (fronts_of here))) where
-    by : (b : Bool) → IsWithin (fronts_of here) (with_said w user f (fronts_of here).e (cond b (Showed asks (page_asked w here asker asks)) PassedOver) client)
-    by false = is
-    by true = elim (cases_Bool (sieves.fits f asks.filter)) [
-      | inl fits ↦ rw fits (shown_within (fronts_of here) asks (page_asked w here asker asks) client is)
-      | inr other ↦ rw other is
-    ]
+        by : (b : Bool) → IsWithin (fronts_of here) (with_said w user f (fronts_of here).e (cond b (Showed asks (page_asked w here asker asks)) PassedOver) client)
+        by false = is
+        by true = elim (cases_Bool (sieves.fits f asks.filter)) [
+          | inl fits ↦ rw fits (shown_within (fronts_of here) asks (page_asked w here asker asks) client is)
+          | inr other ↦ rw other is
+        ]
   said_within here asker Else false client is = is
 
 module _ {V D : Type 0} (w : Server V D) (h : Histories) (device : ℕ) (f : Selection) where
@@ -395,11 +395,11 @@ module _ {V D : Type 0} (w : Server V D) (h : Histories) (device : ℕ) (f : Sel
         λ mine. reaches_within w (w.user_of device) f (fronts_at mark.stores) (exchange_at w h a mark).said client later,
         all_reach mark.stores (after_exchange w device f (exchange_at w h a mark) client) asked marks rise.1 (by (nat_eq a.0 device) later),
       ) where
-    by : (b : Bool) → IsWithin w (w.user_of device) f (fronts_at mark.stores) client
-        → IsWithin w (w.user_of device) f (fronts_at mark.stores)
-        (cond b (with_said w (w.user_of device) f (fronts_at mark.stores).e (exchange_at w h a mark).said client) client)
-    by true later = said_within w (w.user_of device) f (lists_at mark.stores h) (w.user_of a.0) a.1 mark.memory client later
-    by false later = later
+        by : (b : Bool) → IsWithin w (w.user_of device) f (fronts_at mark.stores) client
+            → IsWithin w (w.user_of device) f (fronts_at mark.stores)
+            (cond b (with_said w (w.user_of device) f (fronts_at mark.stores).e (exchange_at w h a mark).said client) client)
+        by true later = said_within w (w.user_of device) f (lists_at mark.stores h) (w.user_of a.0) a.1 mark.memory client later
+        by false later = later
 
 pub connections_agree : {V D : Type 0} → ConnectionsAgree V D
 connections_agree w h lawful rests asked marks rise device f folds =

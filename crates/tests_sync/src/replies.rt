@@ -412,7 +412,14 @@ fn an_invite_shows_what_the_room_is(rt: HostRuntime) {
 }
 
 /// Asserts the timeline and the state of a room that the user left.
-fn expect_left(rt: &impl Abort, alloc: Global, story: &str, row: &str, timeline: &str, state: &str) {
+fn expect_left(
+    rt: &impl Abort,
+    alloc: Global,
+    story: &str,
+    row: &str,
+    timeline: &str,
+    state: &str,
+) {
     let found = answer_to(rt, alloc, story, row).expect(rt, "a reply");
     let room = found.left.as_slice().first().expect(rt, "a room");
     assert!(rt; are_at(rt, &room.part.timeline, &json(rt, alloc, timeline)));
