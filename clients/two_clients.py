@@ -7,9 +7,11 @@ the room's events are compared, in order, with their contents: what alice and bo
 last token to the room's start, and what a first sync of alice's second device sends. Ends with status 0 and a line of what
 agrees, or with 1 and what differs or was still awaited after 50 seconds.
 
-Usage: /usr/bin/python3 two_clients.py URL. clients/two_clients starts a server for it.
+Usage: /usr/bin/python3 two_clients.py URL [CERTIFICATE]. clients/two_clients starts a server for it. With a certificate the URL is one of https, of a
+server which passes the paths of the older API on, as clients/behind_nginx starts one.
 """
 import asyncio
+import ssl
 import sys
 
 import nio
@@ -24,9 +26,15 @@ def timelines(limit):
     return {"room": {"timeline": {"limit": limit}}}
 
 
-# This release of nio (0.20.1) asks for the paths of the older API, r0, and has no setting for it. Those of v3 that are asked for
-# here are the same but for the prefix, which is the last default of the function that builds each path.
-nio.Api._build_path.__defaults__ = (None, "/_matrix/client/v3")
+def ask_for_v3():
+    """Has the library ask for the paths of v3. This release of it (0.20.1) asks for those of the older API, r0, and has no setting for it.
+    Those that are asked for here are the same but for the prefix, which is the last default of the function that builds each path."""
+    nio.Api._build_path.__defaults__ = (None, "/_matrix/client/v3")
+
+
+def trust(certificate):
+    """What takes this certificate alone for a server's; nothing where there is none."""
+    return certificate and ssl.create_default_context(cafile=certificate)
 
 
 class Differs(Exception):
@@ -52,8 +60,8 @@ def read(events):
 class Client:
     """A user's device, and the events of the room that it holds, the oldest first."""
 
-    def __init__(self, url, user, device, token, limit):
-        self.nio = nio.AsyncClient(url, "@%s:example.org" % user, device)
+    def __init__(self, url, trusted, user, device, token, limit):
+        self.nio = nio.AsyncClient(url, "@%s:example.org" % user, device, ssl=trusted)
         # (a login restored by the library's own call would load a store of keys)
         self.nio.user_id, self.nio.access_token = self.nio.user, token
         self.limit, self.held, self.news = limit, [], asyncio.Condition()
@@ -175,10 +183,11 @@ async def compare(alice, bob, second):
     return said + ", paged back by both, and in a first sync"
 
 
-async def main(url):
+async def main(url, certificate=None):
     """What agrees, or raises what doesn't."""
     devices = (("alice", "A1", "tok_a1", 20), ("bob", "B1", "tok_b1", 1), ("alice", "A2", "tok_a2", 1000))
-    clients = [Client(url, *device) for device in devices]
+    trusted = trust(certificate)
+    clients = [Client(url, trusted, *device) for device in devices]
     tasks = [asyncio.create_task(client.follow()) for client in clients[:2]]
     talked = asyncio.create_task(compare(*clients))
     done, _ = await asyncio.wait([talked, *tasks], timeout=LIMIT, return_when=asyncio.FIRST_COMPLETED)
@@ -196,8 +205,10 @@ async def main(url):
     return talked.result()
 
 
+if not sys.argv[2:]:
+    ask_for_v3()
 try:
-    print(asyncio.run(main(sys.argv[1])))
+    print(asyncio.run(main(*sys.argv[1:])))
 except Differs as error:
     print(error)
     sys.exit(1)
