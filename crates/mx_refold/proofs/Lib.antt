@@ -1,0 +1,9 @@
+pub mod Redacted
+pub mod Twice
+pub mod Pages
+pub mod Holdings
+pub mod Cuts
+pub mod Chains
+pub mod Exchanges
+pub mod Alike
+pub mod Needs

@@ -1,0 +1,5 @@
+use Rattle.mx_refold.proofs.room_laws.folds_any_page.Goals as goal
+use Rattle.mx_refold.proofs.Pages as law
+
+pub returns : goal.returns
+returns g c = law.folds_any_page

@@ -1,0 +1,5 @@
+use Rattle.mx_refold.proofs.room_laws.redacts_part.Goals as goal
+use Rattle.mx_refold.proofs.Pages as law
+
+pub returns : goal.returns
+returns g c = law.redacts_part

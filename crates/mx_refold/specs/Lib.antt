@@ -1,0 +1,4 @@
+pub mod Redacted
+pub mod Laws
+pub mod Chains
+pub mod Clients
