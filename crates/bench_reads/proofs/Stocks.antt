@@ -103,13 +103,8 @@ pub knows_none : (all : List Event) (s : Snapshot) → s.events ≡ [] → s.rec
 knows_none all s events receipts accounts = record { events = (all, sym (ap (λ l. l ++ all) events)); receipts = receipts; accounts = accounts }
 
 -- a snapshot that went on to the items up to a place
-pub knows_first : {E : Type 0} (r : Result (Unit {0}) E) (all same first : List Event) (receipts : List Receipt) (accounts : List Entry) (n : ℕ) (s : Snapshot)
-    → all ≡ same → first ≡ take n same → receipts ≡ [] → accounts ≡ []
-    → OnOk r (s.events ≡ first) → OnOk r (s.receipts ≡ receipts) → OnOk r (s.accounts ≡ accounts) → OnOk r (Knows all s)
-knows_first (Err e) all same first receipts accounts n s is begin no_receipts no_accounts on_events on_receipts on_accounts = tt
-knows_first (Ok u) all same first receipts accounts n s is begin no_receipts no_accounts on_events on_receipts on_accounts =
-    record {
-      events = take_begins n all s.events (on_events ∙ begin ∙ ap (take n) (sym is));
-      receipts = on_receipts ∙ no_receipts;
-      accounts = on_accounts ∙ no_accounts;
-    }
+pub knows_first : {E : Type 0} (r : Result (Unit {0}) E) (all same first : List Event) (n : ℕ) (s : Snapshot) → all ≡ same → first ≡ take n same → s.receipts ≡ [] → s.accounts ≡ []
+    → OnOk r (s.events ≡ first) → OnOk r (Knows all s)
+knows_first (Err e) all same first n s is begin receipts accounts on_events = tt
+knows_first (Ok u) all same first n s is begin receipts accounts on_events =
+    record { events = take_begins n all s.events (on_events ∙ begin ∙ ap (take n) (sym is)); receipts = receipts; accounts = accounts }

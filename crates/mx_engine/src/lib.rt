@@ -24,6 +24,7 @@ mod passes;
 mod reading;
 mod seat;
 mod start;
+mod taking;
 mod writes;
 
 pub use answered::{Answered, Counts, Mark};

@@ -3,13 +3,14 @@
 ghost use Rattle.std.specs.Prelude.{◌≡◌, true, IfOk, OnOk};
 ghost use Rattle.mx_acts.specs.Acts.{Reads};
 ghost use Rattle.mx_engine.specs.Answers.{IsDone, Stops, counts_of, reading};
-ghost use Rattle.mx_engine.specs.Shown.{HasLooked, LooksOn, Ties, known_of, made_of, stores_of, taken_in};
+ghost use Rattle.mx_engine.specs.Shown.{HasLooked, LooksOn, Ties, known_of, made_of, stores_of};
 ghost use Rattle.mx_fold.specs.Lists.{Grows, Histories, Lists, lists_of};
 ghost use Rattle.mx_rest.specs.Servers.{AreValid};
 ghost use Rattle.mx_ask.specs.declared.said.Said.{Said};
 
 use crate::answered::{Answered, Counts, Mark};
 use crate::held::{Engine, EnginePass};
+use crate::taking::{take_accounts, take_events, take_receipts};
 use mx_ask::{Refusal, Said};
 use mx_ids::Memory;
 use mx_writers::Gate;
@@ -25,23 +26,6 @@ impl EnginePass {
             events: self.events.stores(),
             receipts: self.receipts.stores(),
             accounts: self.accounts.stores(),
-        }
-    }
-
-    /// Whether the snapshot knows all that the pass has seen.
-    fn knows_all(&self) -> bool
-        ensures { result ≡ true → self.now.known ≡ counts_of (stores_of self.now) }
-    {
-        self.known == self.counts()
-    }
-
-    /// How many stores the snapshot knows, once it took in all that the pass has seen, or was refused the memory.
-    fn taken_in(&self, taken: &Result<(), Memory>) -> Counts
-        ensures { result ≡ taken_in taken.now (counts_of (stores_of self.now)) }
-    {
-        match taken {
-            Ok(()) => self.counts(),
-            Err(_) => Counts::NONE,
         }
     }
 
@@ -134,13 +118,11 @@ impl<G: Gate + Drop> Engine<G> {
         ensures valid { OnOk result (AreValid (known_of pass.new)) }
     {
         self.glance(pass);
-        if pass.knows_all() {
-            return Ok(());
-        }
         self.take_in(rt, alloc, pass)
     }
 
-    /// A look at each stream in its turn: the snapshot takes in what is there.
+    /// The snapshot takes in all that the pass has seen. Of a stream that has more than it knows the pass sees what is there in the
+    /// stream's turn; at the others it takes none.
     fn take_in<R: Wait>(&self, rt: &R, alloc: Global, pass: &mut EnginePass) -> Result<(), Memory>
         requires ties { Ties self.now pass.old }
         ensures ties { Ties self.now pass.new }
@@ -150,11 +132,29 @@ impl<G: Gate + Drop> Engine<G> {
         ensures known { OnOk result (known_of pass.new ≡ lists_of (stores_of pass.new)) }
         ensures valid { OnOk result (AreValid (known_of pass.new)) }
     {
-        let events = pass.events.look(rt, alloc, self.events.stream());
-        let receipts = pass.receipts.look(rt, alloc, self.receipts.stream());
-        let accounts = pass.accounts.look(rt, alloc, self.accounts.stream());
-        let taken = pass.snapshot.advance(alloc, events?, receipts?, accounts?);
-        pass.known = pass.taken_in(&taken);
-        taken
+        take_events(
+            rt,
+            alloc,
+            self.events.stream(),
+            &mut pass.events,
+            &mut pass.snapshot.events,
+            &mut pass.known.events,
+        )?;
+        take_receipts(
+            rt,
+            alloc,
+            self.receipts.stream(),
+            &mut pass.receipts,
+            &mut pass.snapshot.receipts,
+            &mut pass.known.receipts,
+        )?;
+        take_accounts(
+            rt,
+            alloc,
+            self.accounts.stream(),
+            &mut pass.accounts,
+            &mut pass.snapshot.accounts,
+            &mut pass.known.accounts,
+        )
     }
 }

@@ -88,6 +88,10 @@ fn two_passes_of_three_writers_on(
     assert_eq!(rt; send(rt, alloc, e, p, "alice", "!1-8:x", "t2"), 1007);
     assert_eq!(rt; front(rt, alloc, e, p), 14);
     assert_eq!(rt; front(rt, alloc, e, q), 14);
+    // where nothing is new the same is told, and then what one of the streams has
+    assert_eq!(rt; front(rt, alloc, e, p), 14);
+    assert_eq!(rt; send(rt, alloc, e, q, "alice", "!0-1:x", "t3"), 15);
+    assert_eq!(rt; front(rt, alloc, e, p), 15);
 }
 
 #[test]

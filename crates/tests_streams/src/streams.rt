@@ -291,6 +291,40 @@ fn passes_meet_and_note(rt: HostRuntime) {
     drop(stream);
 }
 
+/// The numbers of stores that a pass has seen: after a glance at no store, after one at a first store, and after one more.
+fn glances<R: Wait + Abort>(
+    rt: &R,
+    alloc: Global,
+    stream: &Stream<Number>,
+    pen: &mut Pen<Number>,
+    pass: &mut Pass<Number>,
+) -> (u64, u64, u64)
+    requires pen { place_of_pen pen.old ≡ place_of stream.now }
+    requires free { (known pen.old).block ≡ None }
+    requires pass { place_of_pass pass.old ≡ place_of stream.now }
+{
+    stream.glance(pass);
+    let before = pass.stores();
+    let drawn = draw_one(rt, stream, pen).expect(rt, "space");
+    finish_one(rt, alloc, stream, pen, drawn, 10);
+    stream.glance(pass);
+    let after = pass.stores();
+    stream.glance(pass);
+    (before, after, pass.stores())
+}
+
+#[test]
+fn a_glance_sees_what_was_stored(rt: HostRuntime) {
+    let alloc = rt.alloc();
+    let (stream, pens, mut pass) = stream::<Number>(alloc, 3, 4).expect(&rt, "memory");
+    let mut first = first_pen(&stream, pens);
+    let seen = glances(&rt, alloc, &stream, &mut first, &mut pass);
+    drop(first);
+    drop(pass);
+    drop(stream);
+    assert_eq!(rt; seen, (0, 1, 1));
+}
+
 /// A block of 256 numbers, from 0 on.
 fn numbers(alloc: Global) -> Result<Seq<Number>, Memory>
     ensures { IfOk result (λ items. length items ≡ 256) }
@@ -389,10 +423,10 @@ struct Writer<'a> {
     ghost free: { (known pen).block ≡ None },
 }
 
-/// Stores the numbers from `from` to `from + 49`, one at a time.
-fn fifty<R: Wait + Abort>(rt: &R, alloc: Global, writer: Writer<'_>, from: u64) -> bool {
+/// Stores the numbers from `from` to `from + 69`, one at a time: more than space is made for at once.
+fn seventy<R: Wait + Abort>(rt: &R, alloc: Global, writer: Writer<'_>, from: u64) -> bool {
     let Writer { stream, mut pen } = writer;
-    'writes: for more in 0..50u64 {
+    'writes: for more in 0..70u64 {
         let Ok(drawn) = draw_one(rt, stream, &mut pen) else {
             return false;
         };
@@ -401,7 +435,7 @@ fn fifty<R: Wait + Abort>(rt: &R, alloc: Global, writer: Writer<'_>, from: u64) 
     true
 }
 
-fn fifty_each<R: Threads + Wait + Abort + Sync>(
+fn seventy_each<R: Threads + Wait + Abort + Sync>(
     rt: &R,
     alloc: Global,
     one: Writer<'_>,
@@ -409,13 +443,13 @@ fn fifty_each<R: Threads + Wait + Abort + Sync>(
 ) -> (bool, bool) {
     thread::join(
         rt,
-        move || fifty(rt, alloc, one, 0),
-        move || fifty(rt, alloc, two, 1024),
+        move || seventy(rt, alloc, one, 0),
+        move || seventy(rt, alloc, two, 1024),
     )
 }
 
-/// The first two of three writers store fifty numbers at once.
-fn expect_fifty_each<R: Threads + Wait + Abort + Sync>(
+/// The first two of three writers store seventy numbers at once.
+fn expect_seventy_each<R: Threads + Wait + Abort + Sync>(
     rt: &R,
     alloc: Global,
     stream: &Stream<Number>,
@@ -430,17 +464,17 @@ fn expect_fifty_each<R: Threads + Wait + Abort + Sync>(
         stream,
         pen: second,
     };
-    assert_eq!(rt; fifty_each(rt, alloc, one, two), (true, true));
+    assert_eq!(rt; seventy_each(rt, alloc, one, two), (true, true));
 }
 
 #[test]
 fn threads_store_side_by_side(rt: HostRuntime) {
     let alloc = rt.alloc();
     let (stream, pens, mut pass) = stream::<Number>(alloc, 3, 1000).expect(&rt, "memory");
-    expect_fifty_each(&rt, alloc, &stream, pens);
+    expect_seventy_each(&rt, alloc, &stream, pens);
     let parts = stream.look(&rt, alloc, &mut pass).expect(&rt, "memory");
-    assert_eq!(rt; (parts.stores(), parts.front()), (100, 100));
-    assert_eq!(rt; ends_of_runs(&parts, 0, 1024), (50, 1074));
+    assert_eq!(rt; (parts.stores(), parts.front()), (140, 140));
+    assert_eq!(rt; ends_of_runs(&parts, 0, 1024), (70, 1094));
     drop(parts);
     drop(pass);
     drop(stream);
