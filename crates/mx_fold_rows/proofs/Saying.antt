@@ -16,7 +16,7 @@ use Rattle.mx_json.specs.declared.value.Json.TheViews.{outs-Text}
 use Rattle.mx_event.proofs.Texts.{members_of-Object}
 use Rattle.mx_folding.specs.Visible.{SharedSince}
 use Rattle.mx_view.specs.Readings.{contents, membership_as, setting_as}
-use Rattle.mx_fold_rows.specs.Events.{alice, bob, carol, with_text, event_at, member, setting, redaction, joins_named, private_room, joined_room, long_room, left_room, shared_room, hidden_room, renamed_room, redacted_room, three_users}
+use Rattle.mx_fold_rows.specs.Events.{alice, bob, carol, with_text, event_at, member, setting, redaction, joins_named, private_room, joined_room, long_room, left_room, shared_room, hidden_room, renamed_room, redacted_room, taken_back, three_users}
 use Rattle.mx_fold_rows.specs.Said.{said, Says, SaysMembership, SaysSetting, SaysNames, RoomsSay}
 
 text_there : (key text : List ℕ) → bytes_eq key key ≡ true → text_at key (with_text key text) ≡ Some text
@@ -209,6 +209,14 @@ rooms_say = record {
         (
           member_says 17 bob bob (codes "leave") refl,
           (redaction_says 18 (codes "$16:example.org") refl refl, (member_says 19 bob bob (codes "join") refl, tt)),
+        ),
+      );
+  taken =
+      AllByRecursion-append Says private_room (drop 6 taken_back) private_says (
+        other_says 7 (codes "m.room.message") None alice (codes "body") (codes "hi") refl refl refl refl refl,
+        (
+          other_says 8 (codes "m.room.message") None alice (codes "body") (codes "hi") refl refl refl refl refl,
+          (redaction_says 9 (codes "$7:example.org") refl refl, tt),
         ),
       );
   three =

@@ -101,6 +101,10 @@ renamed_room = shared_room ++ joins_named 11 bob ∷ redaction 12 (codes "$11:ex
 abbrev pub redacted_room : List Event
 redacted_room = left_room ++ message 16 alice ∷ leaves 17 bob ∷ redaction 18 (codes "$16:example.org") ∷ joins 19 bob ∷ []
 
+-- alice redacts her message 7 at 9
+abbrev pub taken_back : List Event
+taken_back = private_room ++ message 7 alice ∷ message 8 alice ∷ redaction 9 (codes "$7:example.org") ∷ []
+
 -- bob and carol join; bob's member event changes at 12
 abbrev pub three_users : List Event
 three_users = private_room ++ invites 7 bob ∷ invites 8 carol ∷ joins 9 bob ∷ joins 10 carol ∷ message 11 bob ∷ joins 12 bob ∷ message 13 bob ∷ []

@@ -8,4 +8,5 @@ pub mod Redacted
 pub mod Lazy
 pub mod Chains
 pub mod Exchanged
+pub mod Anywhere
 pub mod Account

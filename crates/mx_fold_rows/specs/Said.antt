@@ -13,7 +13,7 @@ use Rattle.mx_folding.specs.Visible.{SharedSince}
 use Rattle.mx_view.specs.Readings.{Contents, contents, membership_as, setting_as}
 use Rattle.mx_view.specs.Reads.{ReadAlike}
 use Rattle.mx_fold_rows.specs.Events.{member, setting, redaction}
-use Rattle.mx_fold_rows.specs.Events.{long_room, left_room, shared_room, hidden_room, renamed_room, redacted_room, three_users}
+use Rattle.mx_fold_rows.specs.Events.{long_room, left_room, shared_room, hidden_room, renamed_room, redacted_room, taken_back, three_users}
 
 abbrev pub said_text : Event → Option (List ℕ)
 said_text e = option_map (λ (t : Txn). t.id) e.txn
@@ -50,4 +50,5 @@ pub record RoomsSay : Type 0 where
   pub hidden : AllByRecursion Says hidden_room
   pub renamed : AllByRecursion Says renamed_room
   pub redactions : AllByRecursion Says redacted_room
+  pub taken : AllByRecursion Says taken_back
   pub three : AllByRecursion Says three_users

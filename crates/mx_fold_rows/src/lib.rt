@@ -3,7 +3,7 @@
 //! no code that runs.
 //!
 //! Each function of `rows.rt` has an empty body, and its clauses are the rows: limits and breaks, stays, visibility,
-//! redactions, lazy members, chains of two devices over one connection, account data. `specs/` has the literal events
+//! redactions, lazy members, chains over one connection and over two, account data. `specs/` has the literal events
 //! (`specs/Events.antt`) and what each row says.
 //!
 //! Begin with `rows.rt`, then `specs/Limits.antt`.
@@ -12,6 +12,6 @@
 mod rows;
 
 pub use rows::{
-    account_computes, chains_compute, contents_say, exchanges_compute, limits_compute,
-    members_compute, redactions_compute, stays_compute, visibility_computes,
+    account_computes, chains_compute, connections_compute, contents_say, exchanges_compute,
+    limits_compute, members_compute, redactions_compute, stays_compute, visibility_computes,
 };

@@ -8,6 +8,7 @@ ghost use Rattle.mx_fold_rows.specs.Stays.{BreakAtHidden, PageOfStay, StateAfter
 ghost use Rattle.mx_fold_rows.specs.Visible.{SharedSeen, SharedUnseen, JoinAfterFront, JoinedSeen, JoinedPage, WorldReads, WorldDoesnt, WorldReadsSetting, InvitedSees, BannedSees, OtherLeaves, UnsetIsShared, UnknownIsShared, MessageSetsNothing, OtherKeySetsNothing, EmptyKeySets, MessageJoinsNobody, KeyJoins};
 ghost use Rattle.mx_fold_rows.specs.Redacted.{RedactionSent, RedactionHidden, SentRedacted, SentBefore, CopyRedacted, CopyStays};
 ghost use Rattle.mx_fold_rows.specs.Lazy.{FirstMembers, FirstSender, FirstHero, SentOnceMore, HeroesSent, MemberOmitted, RedundantSent, SentByBase, MembersAfter, PageMembers};
+ghost use Rattle.mx_fold_rows.specs.Anywhere.{BroughtBack, FallsShort, FollowsSync, GoesAcross, GoesBack, ReachesIt, StaysRedacted};
 ghost use Rattle.mx_fold_rows.specs.Chains.{FirstSync, WithPage, GoesOn, NotBegun, PageOfBreak};
 
 /// What the rows read of contents is what the contents say.
@@ -126,6 +127,19 @@ pub fn exchanges_compute()
     ensures goes_on_from { GoesOnFrom }
     ensures begins_anew { BeginsAnew }
     ensures has_not_begun { HasNotBegun }
+{}
+
+/// A chain over two connections: which pages reach the client's token, which are asked on the connection of its last sync, and that
+/// one of an older front brings back an event that the client knows to be redacted.
+#[tactic(auto, using(crate::proofs::Anywhere::goes_across, crate::proofs::Anywhere::reaches_it, crate::proofs::Anywhere::falls_short, crate::proofs::Anywhere::follows_sync, crate::proofs::Anywhere::goes_back, crate::proofs::Anywhere::stays_redacted, crate::proofs::Anywhere::brought_back))]
+pub fn connections_compute()
+    ensures goes_across { GoesAcross }
+    ensures reaches_it { ReachesIt }
+    ensures falls_short { FallsShort }
+    ensures follows_sync { FollowsSync }
+    ensures goes_back { GoesBack }
+    ensures stays_redacted { StaysRedacted }
+    ensures brought_back { BroughtBack }
 {}
 
 /// The global account data of a reply.

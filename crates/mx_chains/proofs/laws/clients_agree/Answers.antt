@@ -1,0 +1,5 @@
+use Rattle.mx_chains.proofs.Chaining as law
+use Rattle.mx_chains.proofs.laws.clients_agree.Goals as goal
+
+pub returns : goal.returns
+returns c = law.clients_agree
