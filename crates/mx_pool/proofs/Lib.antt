@@ -1,3 +1,4 @@
+pub mod Asked
 pub mod Crosses
 pub mod Outcomes
 pub mod Runs

@@ -13,8 +13,10 @@ use Rattle.mx_serve.specs.declared.ended.End.TheVariants as end
 use Rattle.mx_serve.specs.declared.ended.Ended.{Ended}
 use Rattle.mx_pool.specs.declared.status.Status.{Status}
 use Rattle.mx_pool.specs.declared.status.Status.TheVariants as status
-use Rattle.mx_pool.specs.Runs.{Change, HasRisen, HasUsers, IsBroken, IsCause, IsRan, IsServerEnd, IsUsage, RanMode, RanPipe, Tells, TellsAt, World, status_of, users_limit}
-use Rattle.mx_words.specs.Words.{Said}
+use Rattle.mx_pool.specs.Lines.{Tells, line_of, shown}
+use Rattle.mx_pool.specs.Serving.{IsServerStatus}
+use Rattle.mx_pool.specs.Runs.{Change, HasRisen, HasUsers, IsBroken, IsCause, IsPrinted, IsRan, IsServerEnd, IsShort, IsUsage, Prints, RanMode, RanPipe, ServesUsers, TellsAt, TellsPipe, TellsServer, World, status_of, users_limit}
+use Rattle.mx_words.specs.Words.{Help, Meaning, Refused, Said, Says, Version, Wrong}
 use Rattle.mx_serve.proofs.Served.{some-more}
 
 -- the users that were read are those of the file
@@ -47,24 +49,40 @@ mode_outside : (listen : Option (List ℕ)) (said : Said) (w : World) (s : Statu
 mode_outside None said w s c r is = pipe_outside said w s c r is
 mode_outside (Some address) said w s c r is = inl (subst (IsServerEnd (w.file said.users) w.file_faults) is r.2)
 
--- the status `Outside` comes only where a count rose
-pub ran_outside : (said : Option Said) (w : World) (s : Status) (c : Option (Ended × EnginePass)) → IsRan said w s c → s ≡ status.Outside → HasRisen w.file_faults ⊎ (HasRisen w.read_faults ⊎ HasRisen w.write_faults)
-ran_outside None w s c r is = absurd (unread s r.0 is)
-  where
-    unread : (s : Status) → (s ≡ status.Usage) ⊎ (s ≡ status.Memory) → s ≡ status.Outside → ⊥
-    unread s (inl u) is = other (sym u ∙ is)
-      where
-        other : ◌≡◌ {A = Status} status.Usage status.Outside → ⊥
-        other e = cc
-    unread s (inr m) is = other (sym m ∙ is)
-      where
-        other : ◌≡◌ {A = Status} status.Memory status.Outside → ⊥
-        other e = cc
-ran_outside (Some said) w s c (inl r) is = absurd (other (sym r.0 ∙ is))
+-- no run ends with both
+memory_outside : (s : Status) → s ≡ status.Memory → s ≡ status.Outside → ⊥
+memory_outside s memory is = other (sym memory ∙ is)
   where
     other : ◌≡◌ {A = Status} status.Memory status.Outside → ⊥
     other e = cc
-ran_outside (Some said) w s c (inr r) is = mode_outside said.listen said w s c r is
+
+refused_outside : (s : Status) → (s ≡ status.Usage) ⊎ (s ≡ status.Memory) → s ≡ status.Outside → ⊥
+refused_outside s (inl usage) is = other (sym usage ∙ is)
+  where
+    other : ◌≡◌ {A = Status} status.Usage status.Outside → ⊥
+    other e = cc
+refused_outside s (inr memory) is = memory_outside s memory is
+
+printed_outside : (w : World) (s : Status) → Prints w.written w.write_faults s → s ≡ status.Outside → HasRisen w.write_faults
+printed_outside w s (text, inl done) is = absurd (other (sym done.0 ∙ is))
+  where
+    other : ◌≡◌ {A = Status} status.Done status.Outside → ⊥
+    other e = cc
+printed_outside w s (text, inr failed) is = failed.1
+
+-- what was asked to be printed, or was short of memory
+text_outside : (w : World) (s : Status) (c : Option (Ended × EnginePass)) → IsShort w s c ⊎ IsPrinted w s c → s ≡ status.Outside → HasRisen w.file_faults ⊎ (HasRisen w.read_faults ⊎ HasRisen w.write_faults)
+text_outside w s c (inl short) is = absurd (memory_outside s short.0 is)
+text_outside w s c (inr printed) is = inr (inr (printed_outside w s printed.prints is))
+
+-- the status `Outside` comes only where a count rose
+pub ran_outside : (asked : Meaning) (w : World) (s : Status) (c : Option (Ended × EnginePass)) → IsRan asked w s c → s ≡ status.Outside → HasRisen w.file_faults ⊎ (HasRisen w.read_faults ⊎ HasRisen w.write_faults)
+ran_outside (Says said) w s c (inl short) is = absurd (memory_outside s short.0 is)
+ran_outside (Says said) w s c (inr r) is = mode_outside said.listen said w s c r is
+ran_outside Help w s c r is = text_outside w s c r is
+ran_outside Version w s c r is = text_outside w s c r is
+ran_outside Refused w s c r is = absurd (refused_outside s r.0 is)
+ran_outside (Wrong why) w s c r is = absurd (refused_outside s r.0 is)
 
 ended_usage : (e : End) → status_of e ≡ status.Usage → ⊥
 ended_usage end.Closed is = cc
@@ -84,14 +102,34 @@ mode_usage : (listen : Option (List ℕ)) (said : Said) (w : World) (s : Status)
 mode_usage None said w s c r is = pipe_usage said w s c r is
 mode_usage (Some address) said w s c r is = subst (IsServerEnd (w.file said.users) w.file_faults) is r.2
 
--- the status `Usage` comes exactly where the words aren't of their form
-pub ran_usage : (said : Option Said) (w : World) (s : Status) (c : Option (Ended × EnginePass)) → IsRan said w s c → IsUsage said s
-ran_usage None w s c r = r.0
-ran_usage (Some said) w s c (inl r) = λ is. other (sym r.0 ∙ is)
+memory_usage : (s : Status) → s ≡ status.Memory → s ≡ status.Usage → ⊥
+memory_usage s memory is = other (sym memory ∙ is)
   where
     other : ◌≡◌ {A = Status} status.Memory status.Usage → ⊥
     other e = cc
-ran_usage (Some said) w s c (inr r) = mode_usage said.listen said w s c r
+
+text_usage : (w : World) (s : Status) (c : Option (Ended × EnginePass)) → IsShort w s c ⊎ IsPrinted w s c → s ≡ status.Usage → ⊥
+text_usage w s c (inl short) is = memory_usage s short.0 is
+text_usage w s c (inr printed) is = go printed.prints
+  where
+    done : ◌≡◌ {A = Status} status.Done status.Usage → ⊥
+    done e = cc
+
+    failed : ◌≡◌ {A = Status} status.Outside status.Usage → ⊥
+    failed e = cc
+
+    go : Prints w.written w.write_faults s → ⊥
+    go (text, inl p) = done (sym p.0 ∙ is)
+    go (text, inr p) = failed (sym p.0 ∙ is)
+
+-- the status `Usage` comes exactly where the words aren't of their form
+pub ran_usage : (asked : Meaning) (w : World) (s : Status) (c : Option (Ended × EnginePass)) → IsRan asked w s c → IsUsage asked s
+ran_usage (Says said) w s c (inl short) = memory_usage s short.0
+ran_usage (Says said) w s c (inr r) = mode_usage said.listen said w s c r
+ran_usage Help w s c r = text_usage w s c r
+ran_usage Version w s c r = text_usage w s c r
+ran_usage Refused w s c r = r.0
+ran_usage (Wrong why) w s c r = r.0
 
 -- a text that was put, and what tells the rest
 pub tells_more : (old mid new : Option (List ℕ)) (f g h : ℕ) (text more : List ℕ) → Appends old mid text → f ≤ g → Tells mid new g h more → Tells old new f h (text ++ more)
@@ -112,6 +150,61 @@ pub too_long : (told : Option (List ℕ)) → IsLonger told users_limit → IfSo
 too_long None h = tt
 too_long (Some file) h = inl (h, refl)
 
+-- a cause that was told, or want of memory for its line
+pub told_cause : (told : Option (List ℕ)) (faults : Change ℕ) (s t : Status) → IsCause told faults s → (t ≡ s) ⊎ (t ≡ status.Memory) → IsCause told faults t
+told_cause told faults s t cause (inl same) = subst (IsCause told faults) (sym same) cause
+told_cause told faults s t cause (inr memory) = subst (IsCause told faults) (sym memory) tt
+
+-- the line of a status that only memory can be in the place of
+pub same_memory : (s : Status) (a b : Option (List ℕ)) → s ≡ status.Memory → line_of s a ≡ line_of s b
+same_memory s a b is = subst (λ t. line_of t a ≡ line_of t b) (sym is) refl
+
+-- what was told in mode `pipe` once the users were read
+pub tells_served : (users : Users) (workers limit : ℕ) (left written : Change (Option (List ℕ))) (reads writes reading : Change ℕ) (s : Status) (c : Option (Ended × EnginePass))
+    → ServesUsers users workers limit left written reads writes reading s c → (file : List ℕ) (old new : Option (List ℕ)) (f h : ℕ) → Tells old new f h (line_of s None) → TellsPipe file c old new f h s
+tells_served users workers limit left written reads writes reading s None r file old new f h told = subst (λ l. Tells old new f h l) (same_memory s None (Some (shown file)) r.0) told
+tells_served users workers limit left written reads writes reading s (Some c) r file old new f h told = told
+
+-- what was told in mode `pipe` where no connection was served
+pub tells_none : (c : Option (Ended × EnginePass)) (s t : Status) (name file : List ℕ) (old new : Option (List ℕ)) (f h : ℕ) → c ≡ None → t ≡ s → name ≡ file
+    → Tells old new f h (line_of s (Some (shown name))) → TellsPipe file c old new f h t
+tells_none c s t name file old new f h none same is told =
+    subst (λ x. TellsPipe file x old new f h t) (sym none)
+    (subst (λ (p : Status × List ℕ). Tells old new f h (line_of p.0 (Some (shown p.1)))) (λ i. (sym same i, is i)) told)
+
+-- a server that has no users is none that is done, and its line is of the users file
+pub tells_unread : (told : Option (List ℕ)) (faults : Change ℕ) (s : Status) → IsCause told faults s → (file address : List ℕ) (old new : Option (List ℕ)) (f h : ℕ)
+    → Tells old new f h (line_of s (Some (shown file))) → TellsServer file address old new f h s
+tells_unread told faults status.Done cause file address old new f h line = absurd cause
+tells_unread told faults status.RequestStream cause file address old new f h line = absurd cause
+tells_unread told faults status.Usage cause file address old new f h line = absurd cause
+tells_unread told faults (status.UsersFile n) cause file address old new f h line = inl (line, λ e. cc)
+tells_unread told faults status.Outside cause file address old new f h line = inl (line, λ e. cc)
+tells_unread told faults status.Memory cause file address old new f h line = inl (line, λ e. cc)
+tells_unread told faults status.Listener cause file address old new f h line = absurd cause
+
+-- a server whose address isn't bound
+pub tells_unbound : (s : Status) → (s ≡ status.Listener) ⊎ (s ≡ status.Memory) → (file address : List ℕ) (old new : Option (List ℕ)) (f h : ℕ)
+    → Tells old new f h (line_of s (Some (shown address))) → TellsServer file address old new f h s
+tells_unbound s (inl is) file address old new f h line = subst (λ t. TellsServer file address old new f h t) (sym is) (inl (subst (λ t. Tells old new f h (line_of t (Some (shown address)))) is line, λ e. cc))
+tells_unbound s (inr is) file address old new f h line = subst (λ t. TellsServer file address old new f h t) (sym is) (inl (subst (λ t. Tells old new f h (line_of t (Some (shown address)))) is line, λ e. cc))
+
+-- nor is its status any that it may not have
+pub unbound_status : (s : Status) → (s ≡ status.Listener) ⊎ (s ≡ status.Memory) → IsServerStatus s
+unbound_status s (inl is) = subst IsServerStatus (sym is) tt
+unbound_status s (inr is) = subst IsServerStatus (sym is) tt
+
+pub unbound_done : (s : Status) → (s ≡ status.Listener) ⊎ (s ≡ status.Memory) → s ≡ status.Done → ⊥
+unbound_done s (inl is) done = other (sym is ∙ done)
+  where
+    other : ◌≡◌ {A = Status} status.Listener status.Done → ⊥
+    other e = cc
+unbound_done s (inr is) done = other (sym is ∙ done)
+  where
+    other : ◌≡◌ {A = Status} status.Memory status.Done → ⊥
+    other e = cc
+
 -- what a server told, where its address and its status stand in other words
-pub tells_served : (old new : Option (List ℕ)) (f h : ℕ) (listen : Option (List ℕ)) (address : List ℕ) (s t : Status) → Some address ≡ listen → t ≡ s → TellsAt (Some address) old new f h s → TellsAt listen old new f h t
-tells_served old new f h listen address s t at is told = subst (λ l. TellsAt l old new f h t) at (subst (λ u. TellsAt (Some address) old new f h u) (sym is) told)
+pub tells_at : (old new : Option (List ℕ)) (f h : ℕ) (listen : Option (List ℕ)) (file address : List ℕ) (c : Option (Ended × EnginePass)) (s t : Status) → Some address ≡ listen → t ≡ s
+    → TellsServer file address old new f h s → TellsAt listen file c old new f h t
+tells_at old new f h listen file address c s t at is told = subst (λ l. TellsAt l file c old new f h t) at (subst (λ u. TellsServer file address old new f h u) (sym is) told)

@@ -12,18 +12,19 @@ use Rattle.mx_serve.specs.declared.ended.Ended.{Ended}
 use Rattle.mx_pool.specs.declared.status.Status.{Status}
 use Rattle.mx_serve.proofs.Chaining.{connections_agree}
 
-module _ (users : Users) (workers : ℕ) (left written : Change (Option (List ℕ))) (reads writes reading : Change ℕ) (ended : Ended) (seen : Histories) where
-  -- a connection from these lists
-  abbrev From : Site → Stops → Histories → Type 0
-  From site stops start = (calls : List Call) × IsServed site stops (moment [] left.before written.before start reading.before) (moment [] left.after written.after seen reading.after) calls ended.marks ended.end
+module _ (users : Users) (workers limit : ℕ) (left written : Change (Option (List ℕ))) (reads writes reading : Change ℕ) (ended : Ended) (seen : Histories) where
+  -- a connection of so many requests from these lists
+  abbrev From : Site → Stops → ℕ → Histories → Type 0
+  From site stops n start = (calls : List Call) × IsServed site stops n (moment [] left.before written.before start reading.before) (moment [] left.after written.after seen reading.after) calls ended.marks ended.end
 
   -- a connection on a new engine for the users
-  pub serves : (site : Site) (stops : Stops) (start : Histories) (s : Status) → site ≡ site_for users workers → stops ≡ run_stops → start ≡ nothing → From site stops start
+  pub serves : (site : Site) (stops : Stops) (n : ℕ) (start : Histories) (s : Status) → site ≡ site_for users workers → stops ≡ run_stops → n ≡ limit → start ≡ nothing → From site stops n start
       → AreValid seen ended.marks → AreLawful seen → InputFaults ended.end reads.before reads.after → OutputFaults ended.end writes.before writes.after → s ≡ status_of ended.end
-      → ServesOne users workers left written reads writes reading s ended seen
-  serves site stops start s site_is stops_is empty from valid lawful input output is =
-      let h : From (site_for users workers) run_stops nothing =
-      subst (λ l. From (site_for users workers) run_stops l) empty (subst (λ t. From (site_for users workers) t start) stops_is (subst (λ u. From u stops start) site_is from)) in
+      → ServesOne users workers limit left written reads writes reading s ended seen
+  serves site stops n start s site_is stops_is limit_is empty from valid lawful input output is =
+      let h : From (site_for users workers) run_stops limit nothing =
+      subst (λ l. From (site_for users workers) run_stops limit l) empty (subst (λ k. From (site_for users workers) run_stops k start) limit_is
+      (subst (λ t. From (site_for users workers) t n start) stops_is (subst (λ u. From u stops n start) site_is from))) in
       record {
         calls = h.0;
         served = h.1;

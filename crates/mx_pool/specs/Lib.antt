@@ -1,3 +1,4 @@
-pub mod Sets
-pub mod Serving
+pub mod Lines
 pub mod Runs
+pub mod Serving
+pub mod Sets

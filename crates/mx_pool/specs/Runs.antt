@@ -13,8 +13,9 @@ use Rattle.mx_engine.specs.declared.held.EnginePass.{EnginePass}
 use Rattle.mx_serve.specs.declared.ended.End.{End}
 use Rattle.mx_serve.specs.declared.ended.End.TheVariants as end
 use Rattle.mx_serve.specs.declared.ended.Ended.{Ended}
+use Rattle.mx_pool.specs.Lines.{Tells, TellsTwo, line_of, listening_line, shown}
 use Rattle.mx_pool.specs.Serving.{HasNoneLeft}
-use Rattle.mx_words.specs.Words.{Said}
+use Rattle.mx_words.specs.Words.{Help, Meaning, Refused, Said, Says, Version, Wrong}
 use Rattle.mx_pool.specs.declared.serving.Served.{Served}
 use Rattle.mx_pool.specs.declared.serving.Served.TheVariants as served
 use Rattle.mx_pool.specs.declared.status.Status.{Status}
@@ -93,10 +94,10 @@ site_for users workers = record { users = users; writers = workers }
 abbrev pub run_stops : Stops
 run_stops = record { events = 281474976694272; receipts = 281474976694272; accounts = 281474976694272 }
 
--- one connection was served for these users, on an engine without a store; `seen` is what its pass has seen in the end
-pub record ServesOne (users : Users) (workers : ℕ) (left written : Change (Option (List ℕ))) (reads writes reading : Change ℕ) (s : Status) (ended : Ended) (seen : Histories) : Type 0 where
+-- one connection of so many requests was served for these users, on an engine without a store; `seen` is what its pass has seen in the end
+pub record ServesOne (users : Users) (workers limit : ℕ) (left written : Change (Option (List ℕ))) (reads writes reading : Change ℕ) (s : Status) (ended : Ended) (seen : Histories) : Type 0 where
   pub calls : List Call
-  pub served : IsServed (site_for users workers) run_stops (moment [] left.before written.before nothing reading.before) (moment [] left.after written.after seen reading.after) calls ended.marks ended.end
+  pub served : IsServed (site_for users workers) run_stops limit (moment [] left.before written.before nothing reading.before) (moment [] left.after written.after seen reading.after) calls ended.marks ended.end
   pub read_faults : InputFaults ended.end reads.before reads.after
   pub write_faults : OutputFaults ended.end writes.before writes.after
   pub status_is : s ≡ status_of ended.end
@@ -110,14 +111,14 @@ pub record Untouched (left written : Change (Option (List ℕ))) (reading : Chan
   pub unread : reading.after ≡ reading.before
 
 -- a connection was served for these users, or there was no memory for its engine
-abbrev pub ServesUsers : Users → ℕ → Change (Option (List ℕ)) → Change (Option (List ℕ)) → Change ℕ → Change ℕ → Change ℕ → Status → Option (Ended × EnginePass) → Type 0
-ServesUsers users workers left written reads writes reading s None = (s ≡ status.Memory) × Untouched left written reading
-ServesUsers users workers left written reads writes reading s (Some c) = ServesOne users workers left written reads writes reading s c.0 (stores_of c.1)
+abbrev pub ServesUsers : Users → ℕ → ℕ → Change (Option (List ℕ)) → Change (Option (List ℕ)) → Change ℕ → Change ℕ → Change ℕ → Status → Option (Ended × EnginePass) → Type 0
+ServesUsers users workers limit left written reads writes reading s None = (s ≡ status.Memory) × Untouched left written reading
+ServesUsers users workers limit left written reads writes reading s (Some c) = ServesOne users workers limit left written reads writes reading s c.0 (stores_of c.1)
 
 -- in mode `pipe`: for the users of the file a connection was served, or none was, and why
 abbrev pub RanPipe : Said → World → Status → Option (Ended × EnginePass) → Type 0
 RanPipe said w s None = Untouched w.left w.written w.reading × IsCause (w.file said.users) w.file_faults s
-RanPipe said w s (Some c) = (users : Users) × HasUsers (w.file said.users) users × ServesOne users said.workers w.left w.written w.read_faults w.write_faults w.reading s c.0 (stores_of c.1)
+RanPipe said w s (Some c) = (users : Users) × HasUsers (w.file said.users) users × ServesOne users said.workers said.requests w.left w.written w.read_faults w.write_faults w.reading s c.0 (stores_of c.1)
 
 -- how a server ended, by the bytes of its users file and the count of faults of the files
 abbrev pub IsServerEnd : Option (List ℕ) → Change ℕ → Status → Type 0
@@ -137,34 +138,50 @@ RanBy said w s connection = RanMode said.listen said w s connection
 abbrev pub IsUnserved : World → Option (Ended × EnginePass) → Type 0
 IsUnserved w connection = (connection ≡ None) × Untouched w.left w.written w.reading
 
--- what a run did, by its words: they aren't of their form, or it was served by them; or there was no memory to read them
-abbrev pub IsRan : Option Said → World → Status → Option (Ended × EnginePass) → Type 0
-IsRan None w s connection = ((s ≡ status.Usage) ⊎ (s ≡ status.Memory)) × IsUnserved w connection
-IsRan (Some said) w s connection = ((s ≡ status.Memory) × IsUnserved w connection) ⊎ RanBy said w s connection
+-- a text was written to the output, or the output failed
+abbrev pub Prints : Change (Option (List ℕ)) → Change ℕ → Status → Type 0
+Prints written writes s = (text : List ℕ) ×
+    (((s ≡ status.Done) × Appends written.before written.after text) ⊎ ((s ≡ status.Outside) × HasRisen writes × AppendsPart written.before written.after text))
+
+-- a text was asked, and nothing was served
+pub record IsPrinted (w : World) (s : Status) (connection : Option (Ended × EnginePass)) : Type 0 where
+  pub none : connection ≡ None
+  pub taken : Keeps w.left.before w.left.after
+  pub unread : w.reading.after ≡ w.reading.before
+  pub prints : Prints w.written w.write_faults s
+
+-- there was no memory to read the words, or for a text that they ask
+abbrev pub IsShort : World → Status → Option (Ended × EnginePass) → Type 0
+IsShort w s connection = (s ≡ status.Memory) × IsUnserved w connection
+
+-- the words aren't of their form
+abbrev pub IsRefused : World → Status → Option (Ended × EnginePass) → Type 0
+IsRefused w s connection = ((s ≡ status.Usage) ⊎ (s ≡ status.Memory)) × IsUnserved w connection
+
+-- what a run did, by its words
+abbrev pub IsRan : Meaning → World → Status → Option (Ended × EnginePass) → Type 0
+IsRan (Says said) w s connection = IsShort w s connection ⊎ RanBy said w s connection
+IsRan Help w s connection = IsShort w s connection ⊎ IsPrinted w s connection
+IsRan Version w s connection = IsShort w s connection ⊎ IsPrinted w s connection
+IsRan Refused w s connection = IsRefused w s connection
+IsRan (Wrong why) w s connection = IsRefused w s connection
 
 -- the status `Usage` comes exactly where the words aren't of their form, but for want of memory
-abbrev pub IsUsage : Option Said → Status → Type 0
-IsUsage None s = (s ≡ status.Usage) ⊎ (s ≡ status.Memory)
-IsUsage (Some said) s = s ≡ status.Usage → ⊥
+abbrev pub IsUsage : Meaning → Status → Type 0
+IsUsage (Says said) s = s ≡ status.Usage → ⊥
+IsUsage Help s = s ≡ status.Usage → ⊥
+IsUsage Version s = s ≡ status.Usage → ⊥
+IsUsage Refused s = (s ≡ status.Usage) ⊎ (s ≡ status.Memory)
+IsUsage (Wrong why) s = (s ≡ status.Usage) ⊎ (s ≡ status.Memory)
 
 -- in mode `serve` no pair is left, where the listener tells them
 abbrev pub ServesAt : {P : Type 0} → Option (List ℕ) → Option (List P) → Type 0
 ServesAt None left = ⊤
 ServesAt (Some address) left = HasNoneLeft left
 
-abbrev pub ServesAll : {P : Type 0} → Option Said → Option (List P) → Type 0
-ServesAll None left = ⊤
-ServesAll (Some said) left = ServesAt said.listen left
-
--- the line that tells why a status isn't 0
-abbrev pub line_of : Status → List ℕ
-line_of status.Done = []
-line_of status.RequestStream = codes "mxsync: request stream\n"
-line_of status.Usage = codes "mxsync: usage\n"
-line_of (status.UsersFile line) = codes "mxsync: users file, line " ++ (decimal line ++ codes "\n")
-line_of status.Outside = codes "mxsync: outside\n"
-line_of status.Memory = codes "mxsync: memory\n"
-line_of status.Listener = codes "mxsync: listener\n"
+abbrev pub ServesAll : {P : Type 0} → Meaning → Option (List P) → Type 0
+ServesAll (Says said) left = ServesAt said.listen left
+ServesAll other left = ⊤
 
 -- the number of a status
 abbrev pub number_of : Status → ℕ
@@ -176,27 +193,34 @@ number_of status.Outside = 4
 number_of status.Memory = 5
 number_of status.Listener = 6
 
--- the line was written, or the sink failed
-abbrev pub Tells : Option (List ℕ) → Option (List ℕ) → ℕ → ℕ → List ℕ → Type 0
-Tells old new faults_old faults_new line = Appends old new line ⊎ (Rose faults_old faults_new × AppendsPart old new line)
+-- the lines of a run in mode `pipe`: where no connection was served, with the name of the users file
+abbrev pub TellsPipe : List ℕ → Option (Ended × EnginePass) → Option (List ℕ) → Option (List ℕ) → ℕ → ℕ → Status → Type 0
+TellsPipe file None old new faults_old faults_new s = Tells old new faults_old faults_new (line_of s (Some (shown file)))
+TellsPipe file (Some c) old new faults_old faults_new s = Tells old new faults_old faults_new (line_of s None)
 
--- the line that names the address at which a server listens
-abbrev pub listening_line : List ℕ → List ℕ
-listening_line address = codes "mxsync: listening on " ++ (address ++ codes "\n")
+-- what a server's status is about, before it serves: the address that can't be bound, or the users file
+abbrev pub about_of : List ℕ → List ℕ → Status → List ℕ
+about_of file address status.Listener = address
+about_of file address other = file
 
--- two lines were told, one after the other
-abbrev pub TellsTwo : Option (List ℕ) → Option (List ℕ) → ℕ → ℕ → List ℕ → List ℕ → Type 0
-TellsTwo old new faults_old faults_new first second =
-    (mid : Option (List ℕ)) × (between : ℕ) × Tells old mid faults_old between first × Tells mid new between faults_new second
+-- the lines of a run in mode `serve`: the address, once it is bound, which it is where the status is 0, and then why the status isn't 0;
+-- or why no address was bound
+abbrev pub TellsServer : List ℕ → List ℕ → Option (List ℕ) → Option (List ℕ) → ℕ → ℕ → Status → Type 0
+TellsServer file address old new faults_old faults_new s =
+    (Tells old new faults_old faults_new (line_of s (Some (shown (about_of file address s)))) × (s ≡ status.Done → ⊥))
+    ⊎ TellsTwo old new faults_old faults_new (listening_line address) (line_of s None)
 
--- the lines of a run at an address: in mode `serve` the address, which is bound where the status is 0, and then why it isn't 0
-abbrev pub TellsAt : Option (List ℕ) → Option (List ℕ) → Option (List ℕ) → ℕ → ℕ → Status → Type 0
-TellsAt None old new faults_old faults_new s = Tells old new faults_old faults_new (line_of s)
-TellsAt (Some address) old new faults_old faults_new s =
-    (Tells old new faults_old faults_new (line_of s) × (s ≡ status.Done → ⊥)) ⊎ TellsTwo old new faults_old faults_new (listening_line address) (line_of s)
+-- the lines of a run at an address, or at none
+abbrev pub TellsAt : Option (List ℕ) → List ℕ → Option (Ended × EnginePass) → Option (List ℕ) → Option (List ℕ) → ℕ → ℕ → Status → Type 0
+TellsAt None file connection old new faults_old faults_new s = TellsPipe file connection old new faults_old faults_new s
+TellsAt (Some address) file connection old new faults_old faults_new s = TellsServer file address old new faults_old faults_new s
 
--- the lines of a run, by its words; there may have been no memory to read them
-abbrev pub TellsRun : Option Said → Option (List ℕ) → Option (List ℕ) → ℕ → ℕ → Status → Type 0
-TellsRun None old new faults_old faults_new s = Tells old new faults_old faults_new (line_of s)
-TellsRun (Some said) old new faults_old faults_new s =
-    ((s ≡ status.Memory) × Tells old new faults_old faults_new (line_of s)) ⊎ TellsAt said.listen old new faults_old faults_new s
+-- the lines of a run, by its words: why they aren't of their form, which is what `clap` says where it refuses them; there may have been
+-- no memory to read them
+abbrev pub TellsRun : Meaning → Option (Ended × EnginePass) → Option (List ℕ) → Option (List ℕ) → ℕ → ℕ → Status → Type 0
+TellsRun (Says said) connection old new faults_old faults_new s =
+    ((s ≡ status.Memory) × Tells old new faults_old faults_new (line_of s None)) ⊎ TellsAt said.listen said.users connection old new faults_old faults_new s
+TellsRun Help connection old new faults_old faults_new s = Tells old new faults_old faults_new (line_of s None)
+TellsRun Version connection old new faults_old faults_new s = Tells old new faults_old faults_new (line_of s None)
+TellsRun Refused connection old new faults_old faults_new s = (why : List ℕ) × Tells old new faults_old faults_new (line_of s (Some (shown why)))
+TellsRun (Wrong why) connection old new faults_old faults_new s = Tells old new faults_old faults_new (line_of s (Some (shown why)))

@@ -1,19 +1,20 @@
 //! A run of the program.
-ghost use Rattle.std.specs.Prelude.{◌≡◌, ◌⊎◌, ◌≤◌, None, Some, IfErr, IfOk, map, string_bytes};
+ghost use Rattle.std.specs.Prelude.{◌≡◌, ◌⊎◌, ◌≤◌, None, Some, IfErr, IfOk, MatchResult, map, string_bytes};
 ghost use Rattle.mx_outside.specs.Causes.{Rose};
-ghost use Rattle.mx_pool.specs.Runs.{HasUsers, IsCause, IsRan, IsServerEnd, IsUsage, RanBy, RanPipe, ServesAll, ServesAt, Tells, TellsAt, TellsRun, change, line_of};
+ghost use Rattle.mx_pool.specs.Lines.{Tells, line_of, shown};
+ghost use Rattle.mx_pool.specs.Runs.{HasUsers, IsCause, IsRan, IsServerEnd, IsUsage, Prints, RanBy, RanPipe, ServesAll, ServesAt, TellsAt, TellsPipe, TellsRun, TellsServer, change};
 ghost use Rattle.mx_pool.specs.Serving.{HasNoneLeft, IsServerStatus};
-ghost use Rattle.mx_words.specs.Words.{said_by, words_of};
+ghost use Rattle.mx_words.specs.Words.{asked_of, said_by};
 
 use crate::serving::serve;
 use crate::site::{seats_for, serve_users};
 use crate::status::{Status, server_status};
-use crate::telling::{tell, tell_address};
+use crate::telling::{tell, tell_about, tell_address};
 use mx_engine::EnginePass;
-use mx_outside::{Clock, FileFault, Files, Listened, Listener, Sink, Source, Spawner};
+use mx_outside::{Clock, FileFault, Files, Listened, Listener, Put, Sink, Source, Spawner};
 use mx_serve::Ended;
 use mx_users::{Directory, UsersFault, read_users};
-use mx_words::{Mode, Words, WordsFault, read_words};
+use mx_words::{Asked, Mode, Words, WordsFault, read_words};
 use std::alloc::Global;
 use std::rt;
 use std::sync::Wait;
@@ -29,17 +30,23 @@ pub struct Ran {
     pub connection: Option<(Ended, EnginePass)>,
 }
 
-/// Reads the users file that the words name, and serves on an engine that has no store, with so many writers a stream as the words
-/// say: in mode `pipe` one connection over `input` and `output`; in mode `serve` the connections that come to the address of the
-/// words, so many at once as the words say, each by a job of `spawner`. Where the status isn't `Done` a line to `errors` says why, and
-/// in mode `serve` a line before it names the address once it is bound; a fault of `errors` is passed over. Waits for turns at the
-/// streams, rests in syncs with a `timeout`, and in mode `serve` waits for connections, for free passes, and for the jobs in the end.
+/// Reads the users file that the words name, and serves on an engine that has no store, with so many writers a stream and so many
+/// requests a connection as the words say: in mode `pipe` one connection over `input` and `output`; in mode `serve` the connections that
+/// come to the address of the words, so many at once as the words say, each by a job of `spawner`. Where the words ask for the help or
+/// the version that is put to `output`, with status `Done`, and nothing is served. Waits for turns at the streams, rests in syncs with a
+/// `timeout`, and in mode `serve` waits for connections, for free passes, and for the jobs in the end.
+///
+/// Where the status isn't `Done` one line to `errors` says why: `mxsync: usage`, `mxsync: users file, line 3`, `mxsync: outside`,
+/// `mxsync: listener`, `mxsync: request stream` or `mxsync: memory`. It goes on with `: ` and why the words aren't of their form, with the
+/// name of the users file that isn't read, or with the address that isn't bound; each control character of these (U+0000 to U+001F,
+/// U+007F to U+009F) is shown as a space. In mode `serve` a line before it names the address once it is bound. A fault of `errors` is
+/// passed over.
 ///
 /// `Usage` comes exactly where the words aren't of their form; `UsersFile` where the file breaks its form or has
 /// more than 1,048,576 bytes; `Outside` only where a count of faults of `files`, `input` or `output` rose; `Listener` only where that
 /// of `listener` or of `spawner` rose. In mode `serve` `Done` comes only where the listener, where it tells its pairs, has none left.
-/// `connection` is none in mode `serve`, and else only for `Usage` and `UsersFile`, for a fault of `files`, and for want of memory:
-/// then nothing was taken from `input` and nothing was written to `output`.
+/// `connection` is none in mode `serve` and for the help and the version, and else only for `Usage` and `UsersFile`, for a fault of
+/// `files`, and for want of memory: then nothing was taken from `input`, and nothing but the help or the version was written to `output`.
 #[tactic(auto, using(crate::proofs::Outcomes::ran_usage, crate::proofs::Outcomes::ran_outside))]
 pub fn run<
     F: Files,
@@ -64,7 +71,7 @@ pub fn run<
 where
     L::In: Drop + Send + 'static,
     L::Out: Drop + Send + 'static,
-    ensures ran { IsRan (words_of (map string_bytes words.now)) (record {
+    ensures ran { IsRan (asked_of (map string_bytes words.now)) (record {
       file = F.told files.old;
       left = change (S.left input.old) (S.left input.new);
       written = change (K.written output.old) (K.written output.new);
@@ -73,17 +80,21 @@ where
       write_faults = change (K.faults output.old) (K.faults output.new);
       reading = change (C.last clock.old) (C.last clock.new);
     }) result.status result.connection }
-    ensures usage { IsUsage (words_of (map string_bytes words.now)) result.status }
+    ensures usage { IsUsage (asked_of (map string_bytes words.now)) result.status }
     ensures outside { result.status ≡ Status.Outside → Rose (F.faults files.old) (F.faults files.new) ⊎ (Rose (S.faults input.old) (S.faults input.new) ⊎ Rose (K.faults output.old) (K.faults output.new)) }
-    ensures closed { result.status ≡ Status.Done → ServesAll (words_of (map string_bytes words.now)) (L.left listener.new) }
+    ensures closed { result.status ≡ Status.Done → ServesAll (asked_of (map string_bytes words.now)) (L.left listener.new) }
     ensures listener { result.status ≡ Status.Listener → Rose (L.faults listener.old) (L.faults listener.new) ⊎ Rose spawner.old.plan.faults spawner.new.plan.faults }
-    ensures told { TellsRun (words_of (map string_bytes words.now)) (E.written errors.old) (E.written errors.new) (E.faults errors.old) (E.faults errors.new) result.status }
+    ensures told { TellsRun (asked_of (map string_bytes words.now)) result.connection (E.written errors.old) (E.written errors.new) (E.faults errors.old) (E.faults errors.new) result.status }
 {
     match read_words(alloc, words) {
-        Ok(words) => run_words(
+        Ok(Asked::Run(words)) => run_words(
             rt, alloc, &words, files, input, output, errors, clock, listener, spawner,
         ),
-        Err(WordsFault::Usage) => unserved_for(Status::Usage, errors),
+        Ok(Asked::Help(text)) => print_text(text.as_str(), output, errors),
+        Ok(Asked::Version(text)) => print_text(text.as_str(), output, errors),
+        Err(WordsFault::Usage(why)) => {
+            unserved(tell_about(alloc, errors, Status::Usage, why.as_str()))
+        }
         Err(WordsFault::Memory) => unserved_for(Status::Memory, errors),
     }
 }
@@ -125,14 +136,10 @@ where
     }) result.status result.connection }
     ensures closed { result.status ≡ Status.Done → ServesAt (said_by words.now).listen (L.left listener.new) }
     ensures listener { result.status ≡ Status.Listener → Rose (L.faults listener.old) (L.faults listener.new) ⊎ Rose spawner.old.plan.faults spawner.new.plan.faults }
-    ensures told { TellsAt (said_by words.now).listen (E.written errors.old) (E.written errors.new) (E.faults errors.old) (E.faults errors.new) result.status }
+    ensures told { TellsAt (said_by words.now).listen (said_by words.now).users result.connection (E.written errors.old) (E.written errors.new) (E.faults errors.old) (E.faults errors.new) result.status }
 {
     match &words.mode {
-        Mode::Pipe => {
-            let ran = run_pipe(rt, alloc, words, files, input, output, clock);
-            tell(errors, ran.status);
-            ran
-        }
+        Mode::Pipe => run_pipe(rt, alloc, words, files, input, output, errors, clock),
         Mode::Serve(address) => unserved(run_server(
             rt,
             alloc,
@@ -147,18 +154,19 @@ where
     }
 }
 
-/// A run in mode `pipe`, without the line to `errors`.
-fn run_pipe<F: Files, S: Source, K: Sink, C: Clock, R: Wait + rt::Clock>(
+/// A run in mode `pipe`.
+fn run_pipe<F: Files, S: Source, K: Sink, E: Sink, C: Clock, R: Wait + rt::Clock>(
     rt: &R,
     alloc: Global,
     words: &Words,
     files: &mut F,
     input: &mut S,
     output: &mut K,
+    errors: &mut E,
     clock: &mut C,
 ) -> Ran
     requires workers { (1 ≤ words.now.workers) × (words.now.workers ≤ 16) }
-    ensures { RanPipe (said_by words.now) (record {
+    ensures ran { RanPipe (said_by words.now) (record {
       file = F.told files.old;
       left = change (S.left input.old) (S.left input.new);
       written = change (K.written output.old) (K.written output.new);
@@ -167,18 +175,21 @@ fn run_pipe<F: Files, S: Source, K: Sink, C: Clock, R: Wait + rt::Clock>(
       write_faults = change (K.faults output.old) (K.faults output.new);
       reading = change (C.last clock.old) (C.last clock.new);
     }) result.status result.connection }
+    ensures told { TellsPipe (said_by words.now).users result.connection (E.written errors.old) (E.written errors.new) (E.faults errors.old) (E.faults errors.new) result.status }
 {
-    match users_of(alloc, words.users.as_str(), files) {
+    match users_told(alloc, words.users.as_str(), files, errors) {
         Ok(directory) => {
             let (status, connection) = serve_users(
                 rt,
                 alloc,
                 directory,
                 words.workers,
+                words.requests,
                 input,
                 output,
                 clock,
             );
+            tell(errors, status, None);
             Ran { status, connection }
         }
         Err(status) => unserved(status),
@@ -211,18 +222,15 @@ where
     ensures cause { IsServerEnd (F.told files.old (said_by words.now).users) (change (F.faults files.old) (F.faults files.new)) result }
     ensures closed { result ≡ Status.Done → HasNoneLeft (L.left listener.new) }
     ensures listener { result ≡ Status.Listener → Rose (L.faults listener.old) (L.faults listener.new) ⊎ Rose spawner.old.plan.faults spawner.new.plan.faults }
-    ensures told { TellsAt (Some address.now) (E.written errors.old) (E.written errors.new) (E.faults errors.old) (E.faults errors.new) result }
+    ensures told { TellsServer (said_by words.now).users address.now (E.written errors.old) (E.written errors.new) (E.faults errors.old) (E.faults errors.new) result }
 {
-    match users_of(alloc, words.users.as_str(), files) {
+    match users_told(alloc, words.users.as_str(), files, errors) {
         Ok(directory) => {
             listen(
                 rt, alloc, words, address, directory, errors, clock, listener, spawner,
             )
         }
-        Err(status) => {
-            tell(errors, status);
-            status
-        }
+        Err(status) => status,
     }
 }
 
@@ -251,17 +259,14 @@ where
     ensures only { IsServerStatus result }
     ensures closed { result ≡ Status.Done → HasNoneLeft (L.left listener.new) }
     ensures listener { result ≡ Status.Listener → Rose (L.faults listener.old) (L.faults listener.new) ⊎ Rose spawner.old.plan.faults spawner.new.plan.faults }
-    ensures told { TellsAt (Some address.now) (E.written errors.old) (E.written errors.new) (E.faults errors.old) (E.faults errors.new) result }
+    ensures told { TellsServer (said_by words.now).users address.now (E.written errors.old) (E.written errors.new) (E.faults errors.old) (E.faults errors.new) result }
 {
     match listener.listen(address) {
-        Listened::Failed => {
-            tell(errors, Status::Listener);
-            Status::Listener
-        }
+        Listened::Failed => tell_about(alloc, errors, Status::Listener, address),
         Listened::Done => {
             tell_address(errors, address);
             let status = serve_site(rt, alloc, words, directory, clock, listener, spawner);
-            tell(errors, status);
+            tell(errors, status, None);
             status
         }
     }
@@ -290,9 +295,32 @@ where
     ensures closed { result ≡ Status.Done → HasNoneLeft (L.left listener.new) }
     ensures listener { result ≡ Status.Listener → Rose (L.faults listener.old) (L.faults listener.new) ⊎ Rose spawner.old.plan.faults spawner.new.plan.faults }
 {
-    match seats_for(alloc, directory, words.workers, words.connections) {
+    match seats_for(
+        alloc,
+        directory,
+        words.workers,
+        words.connections,
+        words.requests,
+    ) {
         Ok(seats) => server_status(serve(rt, alloc, seats, listener, spawner, clock)),
         Err(_) => Status::Memory,
+    }
+}
+
+/// The users of the file of a name, or the status of a run that has none, which is told.
+fn users_told<F: Files, E: Sink>(
+    alloc: Global,
+    name: &str,
+    files: &mut F,
+    errors: &mut E,
+) -> Result<Directory, Status>
+    ensures users { IfOk result (λ users. HasUsers (F.told files.old name.now) users) }
+    ensures cause { IfErr result (λ s. IsCause (F.told files.old name.now) (change (F.faults files.old) (F.faults files.new)) s) }
+    ensures told { MatchResult result (λ users. errors.new ≡ errors.old) (λ s. Tells (E.written errors.old) (E.written errors.new) (E.faults errors.old) (E.faults errors.new) (line_of s (Some (shown name.now)))) }
+{
+    match users_of(alloc, name, files) {
+        Ok(directory) => Ok(directory),
+        Err(status) => Err(tell_about(alloc, errors, status, name)),
     }
 }
 
@@ -315,13 +343,25 @@ fn users_of<F: Files>(alloc: Global, name: &str, files: &mut F) -> Result<Direct
     }
 }
 
-/// A run that served no connection, and tells why.
+/// A run that puts a text to `output`.
+fn print_text<K: Sink, E: Sink>(text: &str, output: &mut K, errors: &mut E) -> Ran
+    ensures prints { Prints (change (K.written output.old) (K.written output.new)) (change (K.faults output.old) (K.faults output.new)) result.status }
+    ensures connection { result.connection ≡ None }
+    ensures told { Tells (E.written errors.old) (E.written errors.new) (E.faults errors.old) (E.faults errors.new) (line_of result.status None) }
+{
+    match output.put(text.as_bytes()) {
+        Put::Done => unserved_for(Status::Done, errors),
+        Put::Failed => unserved_for(Status::Outside, errors),
+    }
+}
+
+/// A run that served no connection, and tells why, where its status isn't `Done`.
 fn unserved_for<E: Sink>(status: Status, errors: &mut E) -> Ran
     ensures status { result.status ≡ status }
     ensures connection { result.connection ≡ None }
-    ensures told { Tells (E.written errors.old) (E.written errors.new) (E.faults errors.old) (E.faults errors.new) (line_of status) }
+    ensures told { Tells (E.written errors.old) (E.written errors.new) (E.faults errors.old) (E.faults errors.new) (line_of status None) }
 {
-    tell(errors, status);
+    tell(errors, status, None);
     unserved(status)
 }
 

@@ -20,40 +20,43 @@ use std::sync::{Arc, Wait};
 /// No block of a stream is drawn once so many positions were.
 const STOP: u64 = 281_474_976_694_272;
 
-/// Serves one connection for these users, by so many writers a stream: the status, and the connection, which is none for want of
+/// Serves one connection of so many requests for these users, by so many writers a stream: the status, and the connection, which is none for want of
 /// memory alone.
 pub(crate) fn serve_users<S: Source, K: Sink, C: Clock, R: Wait + rt::Clock>(
     rt: &R,
     alloc: Global,
     directory: Directory,
     workers: u8,
+    limit: u64,
     input: &mut S,
     output: &mut K,
     clock: &mut C,
 ) -> (Status, Option<(Ended, EnginePass)>)
     requires workers { (1 ≤ workers) × (workers ≤ 16) }
-    ensures { ServesUsers directory workers
+    ensures { ServesUsers directory workers limit
         (change (S.left input.old) (S.left input.new)) (change (K.written output.old) (K.written output.new))
         (change (S.faults input.old) (S.faults input.new)) (change (K.faults output.old) (K.faults output.new))
         (change (C.last clock.old) (C.last clock.new)) result.0 result.1 }
 {
-    let Ok((server, mut pass)) = server_for(alloc, directory, workers) else {
+    let Ok((server, mut pass)) = server_for(alloc, directory, workers, limit) else {
         return (Status::Memory, None);
     };
     let ended = serve_connection(rt, alloc, &server, &mut pass, input, output, clock);
     (status_of(ended.end), Some((ended, pass)))
 }
 
-/// A server on an engine without a store, with so many writers a stream, and a pass of the engine.
+/// A server of so many requests a connection on an engine without a store, with so many writers a stream, and a pass of the engine.
 fn server_for(
     alloc: Global,
     directory: Directory,
     workers: u8,
+    limit: u64,
 ) -> Result<(Server<Open>, EnginePass), Memory>
     requires workers { (1 ≤ workers) × (workers ≤ 16) }
     ensures ties { IfOk result (λ r. Ties r.0.engine r.1) }
     ensures site { IfOk result (λ r. site_of r.0.engine ≡ site_for directory workers) }
     ensures stops { IfOk result (λ r. stops_of r.0.engine ≡ run_stops) }
+    ensures limit { IfOk result (λ r. r.0.limit ≡ limit) }
     ensures nothing { IfOk result (λ r. stores_of r.1 ≡ nothing) }
 {
     let setup = Setup {
@@ -62,21 +65,22 @@ fn server_for(
         stop: STOP,
     };
     let (engine, pass) = engine(alloc, setup, Open)?;
-    Ok((Server::new(alloc, engine)?, pass))
+    Ok((Server::new(alloc, engine, limit)?, pass))
 }
 
-/// So many seats of a server on an engine without a store, with so many writers a stream.
+/// So many seats of a server on an engine without a store, with so many writers a stream and so many requests a connection.
 pub(crate) fn seats_for(
     alloc: Global,
     directory: Directory,
     workers: u8,
     connections: u8,
+    limit: u64,
 ) -> Result<Vec<Seated<Open>>, Memory>
     requires workers { (1 ≤ workers) × (workers ≤ 16) }
     requires connections { 1 ≤ connections }
     ensures { IfOk result (λ seats. length seats.items ≡ connections) }
 {
-    let (server, pass) = server_for(alloc, directory, workers)?;
+    let (server, pass) = server_for(alloc, directory, workers, limit)?;
     all_seats(alloc, Arc::new(alloc, server)?, pass, connections)
 }
 

@@ -14,7 +14,7 @@ pub enum Status {
     RequestStream,
     /// The words aren't of their form.
     Usage,
-    /// The first line of the users file that breaks its form, from 1; 0 where the file is too long.
+    /// The first line of the users file that breaks its form, from 1; 0 where the file has more than 1,048,576 bytes.
     UsersFile(u64),
     /// The users file couldn't be read, or the input or the output failed.
     Outside,

@@ -1,25 +1,67 @@
 //! The lines to the error stream.
-ghost use Rattle.std.specs.Prelude.{◌++◌, codes, decimal};
-ghost use Rattle.mx_pool.specs.Runs.{Tells, line_of, listening_line};
+ghost use Rattle.std.specs.Prelude.{◌≡◌, ◌⊎◌, ◌++◌, Some, IfOk, codes, decimal, option_map, string_bytes};
+ghost use Rattle.mx_pool.specs.Lines.{Tells, end_of, line_of, listening_line, limit_text, shown};
 
 use crate::status::Status;
 use itoa::Buffer;
+use mx_ids::{Memory, split_first};
 use mx_outside::{Put, Sink};
+use std::alloc::Global;
 
-/// Puts one line to `errors` that says why the status isn't `Done`; nothing where it is. A fault of `errors` is passed over.
-/// Takes no memory.
-pub fn tell<E: Sink>(errors: &mut E, status: Status)
-    ensures { Tells (E.written errors.old) (E.written errors.new) (E.faults errors.old) (E.faults errors.new) (line_of status) }
+/// Puts one line to `errors` that says why the status isn't `Done`; nothing where it is. A fault of `errors` is passed over. Takes no
+/// memory.
+///
+/// The line of `Usage`, `UsersFile`, `Outside` and `Listener` goes on with `: ` and what the status is about, where it is given: why the
+/// words aren't of their form, the name of the users file, or the address that can't be bound. It stands as it is, so it has no line's end.
+pub fn tell<E: Sink>(errors: &mut E, status: Status, about: Option<&str>)
+    ensures { Tells (E.written errors.old) (E.written errors.new) (E.faults errors.old) (E.faults errors.new) (line_of status (option_map (λ s. s.now) about.entry)) }
 {
     match status {
         Status::Done => {}
-        Status::RequestStream => put_line(errors, b"mxsync: request stream\n"),
-        Status::Usage => put_line(errors, b"mxsync: usage\n"),
-        Status::UsersFile(line) => put_users_line(errors, line),
-        Status::Outside => put_line(errors, b"mxsync: outside\n"),
-        Status::Memory => put_line(errors, b"mxsync: memory\n"),
-        Status::Listener => put_line(errors, b"mxsync: listener\n"),
+        Status::RequestStream => put_text(errors, b"mxsync: request stream\n"),
+        Status::Usage => put_line(errors, b"mxsync: usage", about, b"\n"),
+        Status::UsersFile(line) => put_users_line(errors, line, about),
+        Status::Outside => put_line(errors, b"mxsync: outside", about, b": can't be read\n"),
+        Status::Memory => put_text(errors, b"mxsync: memory\n"),
+        Status::Listener => put_line(errors, b"mxsync: listener", about, b": can't be bound\n"),
     }
+}
+
+/// Tells a status with what it is about, of which each control character is shown as a space; the status, or `Memory`, which is told
+/// then, for want of memory.
+pub(crate) fn tell_about<E: Sink>(
+    alloc: Global,
+    errors: &mut E,
+    status: Status,
+    about: &str,
+) -> Status
+    ensures status { (result ≡ status) ⊎ (result ≡ Status.Memory) }
+    ensures told { Tells (E.written errors.old) (E.written errors.new) (E.faults errors.old) (E.faults errors.new) (line_of result (Some (shown about.now))) }
+{
+    match on_one_line(alloc, about) {
+        Ok(about) => {
+            tell(errors, status, Some(about.as_str()));
+            drop(about);
+            status
+        }
+        Err(_) => {
+            tell(errors, Status::Memory, None);
+            Status::Memory
+        }
+    }
+}
+
+/// A text on one line: each control character is a space there.
+fn on_one_line(alloc: Global, text: &str) -> Result<String, Memory>
+    ensures { IfOk result (λ line. string_bytes line ≡ shown text.now) }
+{
+    let mut line = String::new(alloc);
+    let mut rest = text;
+    'characters: while let Some((first, behind)) = split_first(rest) {
+        line.push(if first.is_control() { ' ' } else { first })?;
+        rest = behind;
+    }
+    Ok(line)
 }
 
 /// Puts the line that names the address at which a server listens. A fault is passed over. Takes no memory.
@@ -28,43 +70,81 @@ pub(crate) fn tell_address<E: Sink>(errors: &mut E, address: &str)
 {
     match errors.put(b"mxsync: listening on ") {
         Put::Failed => {}
-        Put::Done => put_address(errors, address),
+        Put::Done => put_about(errors, address, b"\n"),
     }
 }
 
-/// Puts an address and the end of its line.
-fn put_address<E: Sink>(errors: &mut E, address: &str)
-    ensures { Tells (E.written errors.old) (E.written errors.new) (E.faults errors.old) (E.faults errors.new) (address.now ++ codes "\n") }
+/// Puts a line: its begin, what it is about, if that is given, and what is said of that, with the line's end.
+fn put_line<E: Sink>(errors: &mut E, begin: &[u8], about: Option<&str>, says: &[u8])
+    ensures { Tells (E.written errors.old) (E.written errors.new) (E.faults errors.old) (E.faults errors.new) (begin.now ++ end_of (option_map (λ s. s.now) about.entry) says.now) }
 {
-    match errors.put(address.as_bytes()) {
+    match errors.put(begin) {
         Put::Failed => {}
-        Put::Done => put_line(errors, b"\n"),
+        Put::Done => put_end(errors, about, says),
+    }
+}
+
+/// Puts the end of a line: what it is about, if that is given, and what is said of that.
+fn put_end<E: Sink>(errors: &mut E, about: Option<&str>, says: &[u8])
+    ensures { Tells (E.written errors.old) (E.written errors.new) (E.faults errors.old) (E.faults errors.new) (end_of (option_map (λ s. s.now) about.entry) says.now) }
+{
+    match about {
+        None => put_text(errors, b"\n"),
+        Some(about) => put_named(errors, about, says),
+    }
+}
+
+/// Puts `: `, what a line is about, and what is said of that.
+fn put_named<E: Sink>(errors: &mut E, about: &str, says: &[u8])
+    ensures { Tells (E.written errors.old) (E.written errors.new) (E.faults errors.old) (E.faults errors.new) (codes ": " ++ (about.now ++ says.now)) }
+{
+    match errors.put(b": ") {
+        Put::Failed => {}
+        Put::Done => put_about(errors, about, says),
+    }
+}
+
+/// Puts what a line is about, and what is said of that.
+fn put_about<E: Sink>(errors: &mut E, about: &str, says: &[u8])
+    ensures { Tells (E.written errors.old) (E.written errors.new) (E.faults errors.old) (E.faults errors.new) (about.now ++ says.now) }
+{
+    match errors.put(about.as_bytes()) {
+        Put::Failed => {}
+        Put::Done => put_text(errors, says),
     }
 }
 
 /// Puts the line that names a line of the users file.
-fn put_users_line<E: Sink>(errors: &mut E, line: u64)
-    ensures { Tells (E.written errors.old) (E.written errors.new) (E.faults errors.old) (E.faults errors.new) (line_of (Status.UsersFile line)) }
+fn put_users_line<E: Sink>(errors: &mut E, line: u64, about: Option<&str>)
+    ensures { Tells (E.written errors.old) (E.written errors.new) (E.faults errors.old) (E.faults errors.new) (line_of (Status.UsersFile line) (option_map (λ s. s.now) about.entry)) }
 {
     match errors.put(b"mxsync: users file, line ") {
         Put::Failed => {}
-        Put::Done => put_number(errors, line),
+        Put::Done => put_number(errors, line, about),
     }
 }
 
-/// Puts a number and the end of its line.
-fn put_number<E: Sink>(errors: &mut E, number: u64)
-    ensures { Tells (E.written errors.old) (E.written errors.new) (E.faults errors.old) (E.faults errors.new) (decimal number ++ codes "\n") }
+/// Puts the number of a line of the users file, and the end of the line.
+fn put_number<E: Sink>(errors: &mut E, line: u64, about: Option<&str>)
+    ensures { Tells (E.written errors.old) (E.written errors.new) (E.faults errors.old) (E.faults errors.new) (decimal line ++ end_of (option_map (λ s. s.now) about.entry) (limit_text line)) }
 {
     let mut digits = Buffer::new();
-    match errors.put(digits.format(number).as_bytes()) {
-        Put::Failed => {}
-        Put::Done => put_line(errors, b"\n"),
+    put_line(errors, digits.format(line).as_bytes(), about, says_of(line));
+}
+
+/// What is said of a users file behind its name, with the line's end.
+fn says_of(line: u64) -> &'static [u8]
+    ensures { result.now ≡ limit_text line }
+{
+    if line == 0 {
+        b": more than 1048576 bytes\n"
+    } else {
+        b"\n"
     }
 }
 
 /// Puts a text. A fault is passed over.
-fn put_line<E: Sink>(errors: &mut E, text: &[u8])
+fn put_text<E: Sink>(errors: &mut E, text: &[u8])
     ensures { Tells (E.written errors.old) (E.written errors.new) (E.faults errors.old) (E.faults errors.new) text.now }
 {
     let _ = errors.put(text);

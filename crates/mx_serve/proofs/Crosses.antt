@@ -66,7 +66,7 @@ routes_sync = declared_sync Routes.the_type (
 
 module _ (G : RattleType) (gate : Ghosts G.Denot) where
   pub server_send : IsSend G → IsSend (Server.the_row G gate)
-  server_send g = declared_send (Server.the_type G gate) (engine_send G gate g, (routes_send, (waiters.the_send, tt)))
+  server_send g = declared_send (Server.the_type G gate) (engine_send G gate g, (routes_send, (waiters.the_send, (search sendable depth 9, tt))))
 
   pub server_sync : IsSync G → IsSync (Server.the_row G gate)
-  server_sync g = declared_sync (Server.the_type G gate) (engine_sync G gate g, (routes_sync, (waiters.the_sync, tt)))
+  server_sync g = declared_sync (Server.the_type G gate) (engine_sync G gate g, (routes_sync, (waiters.the_sync, (search sendable depth 9, tt))))

@@ -41,7 +41,7 @@ same_response status_a status_b text_a text_b p q = λ i. response (p i) (q i)
 -- a mark under which memory was wanting
 module _ {I : Type 0} (place : Placing I) (k stop : ℕ) (items : List I) (m : Mark) (old new : List (Stored I)) where
   wanting_mark : KeepsMark place k stop items m old new → KeepsMark place k stop items (record m { memory = true }) old new
-  wanting_mark h = record { writer = h.writer; from = h.from; upto = h.upto; all = h.all; stored = h.stored; nothing = λ own e. absurd cc; full = h.full }
+  wanting_mark h = record { decided = λ e. absurd cc; placed = h.placed; writer = h.writer; from = h.from; upto = h.upto; all = h.all; stored = h.stored; nothing = λ own e. absurd cc; full = h.full }
 
 module _ (site : Site) (stops : Stops) where
   wanting_entry : (m : Mark) (old new : Histories) (w : EntryPut) → KeepsEntry stops m old new w → KeepsEntry stops (record m { memory = true }) old new w
@@ -157,28 +157,28 @@ module _ (site : Site) (stops : Stops) where
 
   -- ---- the bytes
 
-  reply_bytes : (earlier : ℕ) (c : Call) (now : ℕ) (old new : Histories) (m : Mark) (status : ℕ) (text : List ℕ) → Responds site stops (call_asked site.users c) now old new m status text
-      → Replies site stops earlier c now old new m (response_bytes status text (bytes_eq c.method (codes "HEAD")) (closes_after earlier c))
-  reply_bytes earlier c now old new m status text r = record {
+  reply_bytes : (limit earlier : ℕ) (c : Call) (now : ℕ) (old new : Histories) (m : Mark) (status : ℕ) (text : List ℕ) → Responds site stops (call_asked site.users c) now old new m status text
+      → Replies site stops limit earlier c now old new m (response_bytes status text (bytes_eq c.method (codes "HEAD")) (closes_after limit earlier c))
+  reply_bytes limit earlier c now old new m status text r = record {
     marks = r.marks;
-    answer_is = ap (λ (a : Response). response_bytes a.status a.text (bytes_eq c.method (codes "HEAD")) (closes_after earlier c)) r.is;
+    answer_is = ap (λ (a : Response). response_bytes a.status a.text (bytes_eq c.method (codes "HEAD")) (closes_after limit earlier c)) r.is;
   }
 
-  pub written : (earlier : ℕ) (c : Call) (now : ℕ) (old new : Histories) (m : Mark) (status : ℕ) (text : List ℕ) (from to : Option (List ℕ)) (s : Step) → Responds site stops (call_asked site.users c) now old new m status text
-      → Writes c m (response_bytes status text (bytes_eq c.method (codes "HEAD")) (closes_after earlier c)) from to s → Answers site stops earlier c now old new from to s
-  written earlier c now old new m status text from to (step.Next n) r w =
-      let bytes = response_bytes status text (bytes_eq c.method (codes "HEAD")) (closes_after earlier c) in
-      (bytes, subst (λ k. Replies site stops earlier c now old new k bytes) (sym w.0) (reply_bytes earlier c now old new m status text r), w.1, w.2)
-  written earlier c now old new m status text from to (step.Last n end.Asked) r w =
-      let bytes = response_bytes status text (bytes_eq c.method (codes "HEAD")) (closes_after earlier c) in
-      (bytes, subst (λ k. Replies site stops earlier c now old new k bytes) (sym w.0) (reply_bytes earlier c now old new m status text r), w.1, w.2)
-  written earlier c now old new m status text from to (step.Last n end.WriteFault) r w =
-      let bytes = response_bytes status text (bytes_eq c.method (codes "HEAD")) (closes_after earlier c) in
-      (bytes, subst (λ k. Replies site stops earlier c now old new k bytes) (sym w.0) (reply_bytes earlier c now old new m status text r), w.1)
-  written earlier c now old new m status text from to (step.Last n end.Closed) r w = absurd w
-  written earlier c now old new m status text from to (step.Last n end.Full) r w = absurd w
-  written earlier c now old new m status text from to (step.Last n end.Cut) r w = absurd w
-  written earlier c now old new m status text from to (step.Last n end.Refused) r w = absurd w
-  written earlier c now old new m status text from to (step.Last n end.ReadFault) r w = absurd w
-  written earlier c now old new m status text from to (step.Last n end.Memory) r w = absurd w
-  written earlier c now old new m status text from to (step.Ended e) r w = absurd w
+  pub written : (limit earlier : ℕ) (c : Call) (now : ℕ) (old new : Histories) (m : Mark) (status : ℕ) (text : List ℕ) (from to : Option (List ℕ)) (s : Step) → Responds site stops (call_asked site.users c) now old new m status text
+      → Writes c m (response_bytes status text (bytes_eq c.method (codes "HEAD")) (closes_after limit earlier c)) from to s → Answers site stops limit earlier c now old new from to s
+  written limit earlier c now old new m status text from to (step.Next n) r w =
+      let bytes = response_bytes status text (bytes_eq c.method (codes "HEAD")) (closes_after limit earlier c) in
+      (bytes, subst (λ k. Replies site stops limit earlier c now old new k bytes) (sym w.0) (reply_bytes limit earlier c now old new m status text r), w.1, w.2)
+  written limit earlier c now old new m status text from to (step.Last n end.Asked) r w =
+      let bytes = response_bytes status text (bytes_eq c.method (codes "HEAD")) (closes_after limit earlier c) in
+      (bytes, subst (λ k. Replies site stops limit earlier c now old new k bytes) (sym w.0) (reply_bytes limit earlier c now old new m status text r), w.1, w.2)
+  written limit earlier c now old new m status text from to (step.Last n end.WriteFault) r w =
+      let bytes = response_bytes status text (bytes_eq c.method (codes "HEAD")) (closes_after limit earlier c) in
+      (bytes, subst (λ k. Replies site stops limit earlier c now old new k bytes) (sym w.0) (reply_bytes limit earlier c now old new m status text r), w.1)
+  written limit earlier c now old new m status text from to (step.Last n end.Closed) r w = absurd w
+  written limit earlier c now old new m status text from to (step.Last n end.Full) r w = absurd w
+  written limit earlier c now old new m status text from to (step.Last n end.Cut) r w = absurd w
+  written limit earlier c now old new m status text from to (step.Last n end.Refused) r w = absurd w
+  written limit earlier c now old new m status text from to (step.Last n end.ReadFault) r w = absurd w
+  written limit earlier c now old new m status text from to (step.Last n end.Memory) r w = absurd w
+  written limit earlier c now old new m status text from to (step.Ended e) r w = absurd w

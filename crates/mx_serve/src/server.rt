@@ -8,24 +8,28 @@ use mx_wait::Waiters;
 use mx_writers::Gate;
 use std::alloc::Global;
 
-/// What the connections of a homeserver share: its engine, the routes of the calls, and those that rest in a sync until something
-/// has changed.
+/// What the connections of a homeserver share: its engine, the routes of the calls, those that rest in a sync until something has
+/// changed, and how many requests each of them is served.
 #[derive(Drop)]
 pub struct Server<G: Gate + Drop> {
     pub(crate) engine: Engine<G>,
     pub(crate) routes: Routes,
     pub(crate) waiters: Waiters,
+    pub(crate) limit: u64,
 }
 
 impl<G: Gate + Drop> Server<G> {
-    /// A server on an engine, at which nobody rests. `Memory` where there is no room for the tables of its routes.
-    pub fn new(alloc: Global, engine: Engine<G>) -> Result<Server<G>, Memory>
-        ensures { IfOk result (λ s. s.engine ≡ engine) }
+    /// A server on an engine, at which nobody rests, and which serves each connection `limit` requests. `Memory` where there is no room
+    /// for the tables of its routes.
+    pub fn new(alloc: Global, engine: Engine<G>, limit: u64) -> Result<Server<G>, Memory>
+        ensures engine { IfOk result (λ s. s.engine ≡ engine) }
+        ensures limit { IfOk result (λ s. s.limit ≡ limit) }
     {
         Ok(Server {
             engine,
             routes: Routes::new(alloc)?,
             waiters: Waiters::new(),
+            limit,
         })
     }
 

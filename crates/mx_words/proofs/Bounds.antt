@@ -1,42 +1,38 @@
 -- The numbers of what the words say lie in the bounds of their options.
 use Rattle.std.proofs.Common.{◌≡◌, ◌∙◌, ◌≤◌, ℕ, Option, Some, None, List, ap, sym, codes}
-use Rattle.std.specs.Prelude.{option_map, option_and_then}
+use Rattle.std.specs.Prelude.{Result, Ok, Err}
 use Rattle.clap.specs.Words.{Row, Text, first_of, one_of, rows_of}
 use Rattle.clap.specs.declared.parser.matches.Found.{Found}
 use Rattle.clap.proofs.WalkLemmas.{one_text-rows}
-use Rattle.mx_words.specs.Matches.{HasNumberUpTo}
-use Rattle.mx_words.specs.Words.{Said, number_of, said_from, said_of, way_of}
+use Rattle.mx_words.specs.Matches.{HasNumberUpTo, HasNumbers}
+use Rattle.mx_words.specs.Words.{AreWithin, Said, number_in, said_at, said_by, said_of, said_with, way_of}
+use Rattle.mx_words.specs.declared.words.Words.{Words}
 
--- both numbers are those of their texts
-numbers_from : (users : Text) (way : Option (Option Text)) (w c : Option Text) (s : Said) → Some s ≡ said_from users way w c
-    → (Some s.workers ≡ option_map number_of w) × (Some s.connections ≡ option_map number_of c)
-numbers_from users None w c s e = absurd cc
-numbers_from users (Some way) None c s e = absurd cc
-numbers_from users (Some way) (Some w) None s e = absurd cc
-numbers_from users (Some way) (Some w) (Some c) s e = (ap (option_map (λ (x : Said). x.workers)) e, ap (option_map (λ (x : Said). x.connections)) e)
+-- what is said has these numbers
+record Has (s : Said) (w c r : ℕ) : Type 0 where
+  workers : s.workers ≡ w
+  connections : s.connections ≡ c
+  requests : s.requests ≡ r
 
-numbers : (users word : Option Text) (listen w c : Option Text) (s : Said)
-    → Some s ≡ option_and_then (λ u. option_and_then (λ m. said_from u (way_of m listen) w c) word) users
-    → (Some s.workers ≡ option_map number_of w) × (Some s.connections ≡ option_map number_of c)
-numbers None word listen w c s e = absurd cc
-numbers (Some u) None listen w c s e = absurd cc
-numbers (Some u) (Some m) listen w c s e = numbers_from u (way_of m listen) w c s e
+at : (users : Text) (w c r : ℕ) (way : Result (Option Text) Text) (s : Said) → Ok s ≡ said_at users w c r way → Has s w c r
+at users w c r (Err why) s e = absurd cc
+at users w c r (Ok listen) s e = let same : s ≡ record { users = users; listen = listen; workers = w; connections = c; requests = r } = cc (e) in
+    record { workers = ap (λ (x : Said). x.workers) same; connections = ap (λ (x : Said). x.connections) same; requests = ap (λ (x : Said). x.requests) same }
 
-said_numbers : (rows : List Row) (s : Said) → Some s ≡ said_of rows
-    → (Some s.workers ≡ option_map number_of (one_of (codes "workers") rows)) × (Some s.connections ≡ option_map number_of (one_of (codes "connections") rows))
-said_numbers rows s e = numbers (first_of (codes "users") rows) (first_of (codes "mode") rows) (first_of (codes "listen") rows)
-    (one_of (codes "workers") rows) (one_of (codes "connections") rows) s e
+with_numbers : (users word listen : Option Text) (w c r : ℕ) (s : Said) → Ok s ≡ said_with users word listen w c r → Has s w c r
+with_numbers None word listen w c r s e = absurd cc
+with_numbers (Some users) None listen w c r s e = absurd cc
+with_numbers (Some users) (Some word) listen w c r s e = at users w c r (way_of word listen) s e
 
-same : (a b : ℕ) → Some a ≡ Some b → a ≡ b
-same a b e = cc (e)
+bounded : (most : ℕ) (f : Found) (id : Text) (n : ℕ) → HasNumberUpTo most f id → n ≡ number_in (one_of id (rows_of f)) → (1 ≤ n) × (n ≤ most)
+bounded most f id n has e = rw (e ∙ ap number_in (sym (one_text-rows f id) ∙ has.1)) (has.3, has.4)
 
-bounded : (most : ℕ) (f : Found) (id : Text) (n : ℕ) → HasNumberUpTo most f id → Some n ≡ option_map number_of (one_of id (rows_of f)) → (1 ≤ n) × (n ≤ most)
-bounded most f id n has e =
-    let value : n ≡ number_of has.0 = same _ _ (e ∙ ap (option_map number_of) (sym (one_text-rows f id) ∙ has.1)) in
-    rw value (has.3, has.4)
-
-pub workers_bounded : (f : Found) (s : Said) (n : ℕ) → HasNumberUpTo 16 f (codes "workers") → Some s ≡ said_of (rows_of f) → n ≡ s.workers → (1 ≤ n) × (n ≤ 16)
-workers_bounded f s n has e is = rw is (bounded 16 f (codes "workers") s.workers has (said_numbers (rows_of f) s e).0)
-
-pub connections_bounded : (f : Found) (s : Said) (n : ℕ) → HasNumberUpTo 64 f (codes "connections") → Some s ≡ said_of (rows_of f) → n ≡ s.connections → (1 ≤ n) × (n ≤ 64)
-connections_bounded f s n has e is = rw is (bounded 64 f (codes "connections") s.connections has (said_numbers (rows_of f) s e).1)
+pub within : (f : Found) (w : Words) → HasNumbers f → Ok (said_by w) ≡ said_of (rows_of f) → AreWithin w
+within f w has e =
+    let n = with_numbers (first_of (codes "users") (rows_of f)) (first_of (codes "mode") (rows_of f)) (first_of (codes "listen") (rows_of f))
+    (number_in (one_of (codes "workers") (rows_of f))) (number_in (one_of (codes "connections") (rows_of f))) (number_in (one_of (codes "requests") (rows_of f))) (said_by w) e in
+    record {
+      workers = bounded 16 f (codes "workers") w.workers has.workers n.workers;
+      connections = bounded 64 f (codes "connections") w.connections has.connections n.connections;
+      requests = bounded 4294967296 f (codes "requests") w.requests has.requests n.requests;
+    }

@@ -1,6 +1,7 @@
 pub mod Added
 pub mod Bounds
 pub mod Defaults
+pub mod OneKind
 pub mod Parsed
-pub mod Ranges
 pub mod PipeWords
+pub mod Ranges

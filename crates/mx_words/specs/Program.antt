@@ -1,25 +1,26 @@
 -- The command that `clap` reads the words by.
-use Rattle.std.specs.Prelude.{ℕ, Bool, pos, true, false, Some, [], ◌∷◌, List, codes}
+use Rattle.std.specs.Prelude.{ℤ, Bool, pos, true, false, Some, [], ◌∷◌, List, codes}
 use Rattle.clap.specs.Words.{App, Rule, Text, new_app, new_rule}
 use Rattle.clap.specs.declared.builder.action.ArgAction.TheVariants.{Set}
 use Rattle.clap.specs.declared.builder.value_parser.ValueParser.TheVariants as parsers
 
--- no name of the program stands before its words, and it has no help and no version
+-- no name of the program stands before its words, and it has a version
 abbrev pub bare : App
 bare = let a = new_app (codes "mxsync") in
-    record a { top = record a.top { no_binary_name = true; disable_help_flag = true; disable_version_flag = true } }
+    record a { top = record a.top { no_binary_name = true; has_version = true } }
 
--- an option `--NAME TEXT`
+-- an option `--NAME VALUE`
 abbrev pub text_rule : Text → Bool → Rule
-text_rule name is_required = record (new_rule name) { long = Some name; action = Some Set; required = is_required }
+text_rule name is_required = record (new_rule name) { long = Some name; action = Some Set; required = is_required; value_names = 1 }
 
 -- an option `--NAME N` with a number of 1 to `most`, and what it is where it isn't given
-abbrev pub number_rule : Text → ℕ → Text → Rule
+abbrev pub number_rule : Text → ℤ → Text → Rule
 number_rule name most otherwise = record (new_rule name) {
   long = Some name;
   action = Some Set;
-  parser = Some (parsers.Signed (pos 1) (pos most));
+  parser = Some (parsers.Signed (pos 1) most);
   defaults = otherwise ∷ [];
+  value_names = 1;
 }
 
 -- the options of the program
@@ -27,8 +28,9 @@ abbrev pub rules : List Rule
 rules = text_rule (codes "users") true
     ∷ text_rule (codes "mode") true
     ∷ text_rule (codes "listen") false
-    ∷ number_rule (codes "workers") 16 (codes "1")
-    ∷ number_rule (codes "connections") 64 (codes "8") ∷ []
+    ∷ number_rule (codes "workers") (pos 16) (codes "1")
+    ∷ number_rule (codes "connections") (pos 64) (codes "8")
+    ∷ number_rule (codes "requests") (pos 4294967296) (codes "1000") ∷ []
 
 abbrev pub program : App
 program = record bare { top = record bare.top { rules = rules } }

@@ -1,10 +1,18 @@
-//! What the words say, in words that are written out.
-ghost use Rattle.std.specs.Prelude.{◌≡◌, List, ℕ, Some, false};
+//! What the words ask, in words that are written out.
+ghost use Rattle.std.specs.Prelude.{◌≡◌, ◌∷◌, List, ℕ, codes, false};
 ghost use Rattle.std.specs.Str.Parse.{starts_with_minus};
-ghost use Rattle.mx_words.specs.Words.{pipe_said, pipe_words, words_of};
+ghost use Rattle.mx_words.specs.Words.{Help, Says, Version, asked_of, pipe_said, pipe_words};
 
-/// The words `--users FILE --mode pipe` are read, where the name of the file doesn't begin with `-`: one writer a stream, 8 connections.
+/// The words `--users FILE --mode pipe` are read, where the name of the file doesn't begin with `-`: one writer a stream, 8 connections,
+/// 1,000 requests for each.
 #[tactic(auto, using(crate::proofs::PipeWords::pipe_words_read))]
 pub fn pipe_words_are_read()
-    ensures { (file : List ℕ) → starts_with_minus file ≡ false → words_of (pipe_words file) ≡ Some (pipe_said file) }
+    ensures { (file : List ℕ) → starts_with_minus file ≡ false → asked_of (pipe_words file) ≡ Says (pipe_said file) }
+{}
+
+/// `--help` and `--version` as the first word ask for the help and the version, whatever follows.
+#[tactic(auto, using(crate::proofs::PipeWords::help_first, crate::proofs::PipeWords::version_first))]
+pub fn help_and_version_are_asked()
+    ensures help { (rest : List (List ℕ)) → asked_of (codes "--help" ∷ rest) ≡ Help }
+    ensures version { (rest : List (List ℕ)) → asked_of (codes "--version" ∷ rest) ≡ Version }
 {}

@@ -1,55 +1,45 @@
 //! Reading the words of the command line.
-ghost use Rattle.std.specs.Prelude.{◌≡◌, ◌≤◌, IfOk, None, Some, map, string_bytes};
-ghost use Rattle.clap.specs.Words.{found_of};
-ghost use Rattle.mx_words.specs.Matches.{IsParse, said_by_values};
-ghost use Rattle.mx_words.specs.Words.{said_by, words_of};
+ghost use Rattle.std.specs.Prelude.{◌≡◌, IfOk, map, string_bytes};
+ghost use Rattle.clap.specs.Words.{found_of, kind_of, rows_of};
+ghost use Rattle.mx_words.specs.Matches.{HasNumbers, IsAskedBy, IsRunBy, said_by_values, why_of};
+ghost use Rattle.mx_words.specs.Words.{AreWithin, IfRun, IsRead, asked_of, said_by, said_of};
 
-use crate::matches::{Values, read_matches};
+use crate::matches::{Values, Wrong, read_matches};
 use crate::program::program;
-use crate::words::{Mode, Words, WordsFault};
+use crate::words::{Asked, Mode, Words, WordsFault};
 use clap::ArgMatches;
-use clap::error::ErrorKind;
+use clap::error::{Error, ErrorKind};
 use std::alloc::{AllocError, Global};
 
 /// Reads the words of the command line, those after the program's name: `--users FILE`, `--mode pipe` or `--mode serve` (both needed),
-/// `--listen ADDRESS`, `--workers N` (1 to 16, 1 where it isn't given) and `--connections N` (1 to 64, 8 where it isn't given), in any
-/// order. Mode `serve` needs `--listen`, and mode `pipe` refuses it. No option is given twice. A value may stand after `=` in its option's
-/// word, and one that begins with `-` and has more stands only there. A number is decimal digits, before which a plus or zeros may stand.
+/// `--listen ADDRESS`, `--workers N` (1 to 16, 1 where it isn't given), `--connections N` (1 to 64, 8 where it isn't given) and
+/// `--requests N` (1 to 4,294,967,296, 1,000 where it isn't given), in any order. Mode `serve` needs `--listen`, and mode `pipe` refuses
+/// it. No option is given twice. A value may stand after `=` in its option's word, and one that begins with `-` and has more stands only
+/// there. A number is decimal digits, before which a plus or zeros may stand. `--help` or `-h` asks for the help, and `--version` or `-V`
+/// for the version, where no word before it is refused.
 ///
 /// `Usage` comes exactly where `clap` refuses the words for another cause than memory, the mode is none of the two, or the condition on
-/// `--listen` fails; `Memory` only for want of memory.
-#[tactic(auto, unfolding(crate::specs::Words::words_of))]
-pub fn read_words(alloc: Global, words: &[String]) -> Result<Words, WordsFault>
-    ensures ok { IfOk result (λ w. words_of (map string_bytes words.now) ≡ Some (said_by w)) }
-    ensures usage { result ≡ Err WordsFault.Usage → words_of (map string_bytes words.now) ≡ None }
-    ensures workers { IfOk result (λ w. (1 ≤ w.workers) × (w.workers ≤ 16)) }
-    ensures connections { IfOk result (λ w. (1 ≤ w.connections) × (w.connections ≤ 64)) }
-{
-    let matches = parse(alloc, words)?;
-    match read_matches(&matches) {
-        Some(values) => Ok(owned(alloc, values)?),
-        None => Err(WordsFault::Usage),
-    }
-}
-
-/// What `clap` finds in the words.
-fn parse<'a>(alloc: Global, words: &'a [String]) -> Result<ArgMatches<'a>, WordsFault>
-    ensures ok { IfOk result (λ m. IsParse (map string_bytes words.entry.now) (found_of m)) }
-    ensures usage { result ≡ Err WordsFault.Usage → words_of (map string_bytes words.entry.now) ≡ None }
+/// `--listen` fails. Its text is exact for the last two; what `clap` says isn't told. `Memory` comes only for want of memory.
+#[tactic(auto, unfolding(crate::specs::Words::asked_of))]
+pub fn read_words(alloc: Global, words: &[String]) -> Result<Asked, WordsFault>
+    ensures read { IsRead result (asked_of (map string_bytes words.now)) }
+    ensures within { IfOk result (λ asked. IfRun asked AreWithin) }
 {
     match program(alloc)?.try_get_matches_from(words) {
-        Ok(matches) => Ok(matches),
-        Err(error) => Err(fault(error.kind())),
+        Ok(matches) => Ok(Asked::Run(read_run(alloc, &matches)?)),
+        Err(error) => asked_by(alloc, &error),
     }
 }
 
-/// Why there are no matches.
-fn fault(kind: ErrorKind) -> WordsFault
-    ensures { result ≡ WordsFault.Usage → kind ≡ ErrorKind.OutOfMemory → ⊥ }
+/// The words of a run by their matches.
+fn read_run(alloc: Global, matches: &ArgMatches) -> Result<Words, WordsFault>
+    requires { HasNumbers (found_of matches.now) }
+    ensures run { IsRunBy result (said_of (rows_of (found_of matches.now))) }
+    ensures within { IfOk result AreWithin }
 {
-    match kind {
-        ErrorKind::OutOfMemory => WordsFault::Memory,
-        _ => WordsFault::Usage,
+    match read_matches(matches) {
+        Ok(values) => Ok(owned(alloc, values)?),
+        Err(wrong) => Err(WordsFault::Usage(why(alloc, wrong)?)),
     }
 }
 
@@ -67,5 +57,44 @@ fn owned(alloc: Global, values: Values) -> Result<Words, AllocError>
         mode,
         workers: values.workers,
         connections: values.connections,
+        requests: values.requests,
     })
+}
+
+/// Why there is no run, as one text.
+fn why(alloc: Global, wrong: Wrong) -> Result<String, AllocError>
+    ensures { IfOk result (λ text. string_bytes text ≡ why_of wrong.entry) }
+{
+    let mut text = String::from_str(alloc, wrong.says)?;
+    text.push_str(wrong.word)?;
+    Ok(text)
+}
+
+/// What is asked where there are no matches.
+fn asked_by(alloc: Global, error: &Error) -> Result<Asked, WordsFault>
+    ensures { IsAskedBy result (kind_of error.now) }
+{
+    match error.kind() {
+        ErrorKind::DisplayHelp => Ok(Asked::Help(error.to_string(alloc)?)),
+        ErrorKind::DisplayVersion => Ok(Asked::Version(error.to_string(alloc)?)),
+        ErrorKind::OutOfMemory => Err(WordsFault::Memory),
+        _ => Err(WordsFault::Usage(first_part(alloc, error)?)),
+    }
+}
+
+/// What `clap` says of an error up to the first empty line, in one line: behind it come tips and the usage.
+fn first_part(alloc: Global, error: &Error) -> Result<String, AllocError> {
+    let all = error.to_string(alloc)?;
+    let said = all.as_str();
+    let mut part = String::new(alloc);
+    for line in said.strip_prefix("error: ").unwrap_or(said).lines() {
+        if line.is_empty() {
+            break;
+        }
+        if !part.is_empty() {
+            part.push(' ')?;
+        }
+        part.push_str(line.trim())?;
+    }
+    Ok(part)
 }

@@ -11,7 +11,7 @@ pub enum Mode {
     Serve(String),
 }
 
-/// The words of the command line, read.
+/// The words of a run, read.
 #[derive(Drop)]
 pub struct Words {
     /// The name of the users file.
@@ -21,13 +21,27 @@ pub struct Words {
     pub workers: u8,
     /// Connections at once, 1 to 64.
     pub connections: u8,
+    /// Requests that a connection is served, 1 to 4,294,967,296.
+    pub requests: u64,
+}
+
+/// What the words of the command line ask.
+#[derive(Drop)]
+pub enum Asked {
+    /// A run of the program.
+    Run(Words),
+    /// The help: the text that `clap` makes of the options, of several lines.
+    Help(String),
+    /// The version: the line that `clap` makes of it.
+    Version(String),
 }
 
 /// Why the words aren't read.
-#[derive(Clone, Copy, Debug, PartialEq, Eq)]
+#[derive(Drop)]
 pub enum WordsFault {
-    /// They aren't of the form that the program takes.
-    Usage,
+    /// They aren't of the form that the program takes, as this text says, which names the word or the option. What stands in the words
+    /// stands in it as it is, also a line's end.
+    Usage(String),
     /// Want of memory.
     Memory,
 }

@@ -21,11 +21,11 @@ use std::process::ExitCode;
 fn main(rt: HostRuntime) -> ExitCode {
     let mut errors = StdErr::new(rt.stderr());
     let Ok(words) = program_words(&rt) else {
-        tell(&mut errors, Status::Memory);
+        tell(&mut errors, Status::Memory, None);
         return ExitCode::from(Status::Memory.number());
     };
     let Ok(mut spawner) = Spawner::in_threads(rt.alloc()) else {
-        tell(&mut errors, Status::Memory);
+        tell(&mut errors, Status::Memory, None);
         return ExitCode::from(Status::Memory.number());
     };
     let mut files = HostFiles::new(rt);

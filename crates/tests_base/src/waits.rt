@@ -42,3 +42,12 @@ fn a_wake_before_the_rest_is_seen(rt: HostRuntime) {
     waiters.rest(&rt, seen, 600_000);
     assert_eq!(rt; waiters.count(), 1);
 }
+
+#[test]
+fn wakes_with_nobody_at_rest_are_counted(rt: HostRuntime) {
+    let waiters = Waiters::new();
+    waiters.wake(&rt);
+    waiters.rest(&rt, 1, 1);
+    waiters.wake(&rt);
+    assert_eq!(rt; waiters.count(), 2);
+}

@@ -1,50 +1,79 @@
 //! The words of the command line.
-use mx_words::{Mode, Words, WordsFault, read_words};
+use mx_words::{Asked, Mode, Words, WordsFault, read_words};
 use std::alloc::{AllocError, AllocFailed, Global};
 use std::test::Fail;
 
-/// Words and, after a bar, what they say: the users file, the address (`-` in mode `pipe`), the writers and the connections; or
-/// nothing where they are refused.
+/// Words and, after a bar, what they ask: the users file, the address (`-` in mode `pipe`), the writers, the connections and the requests
+/// of a run; `help` or `version`; or, after a `!`, why they are refused.
 const TABLE: &str = "\
---users u.txt --mode pipe|u.txt - 1 8
---mode pipe --users u.txt|u.txt - 1 8
---users=u.txt --mode=pipe|u.txt - 1 8
---users u.txt --mode pipe --workers 16 --connections 64|u.txt - 16 64
---workers=1 --connections=1 --users u.txt --mode pipe|u.txt - 1 1
---users u.txt --mode pipe --workers +3 --connections 010|u.txt - 3 10
---users u.txt --mode serve --listen 127.0.0.1:8008|u.txt 127.0.0.1:8008 1 8
---listen [::1]:80 --connections 2 --mode serve --workers 4 --users a/b.txt|a/b.txt [::1]:80 4 2
---users pipe --mode pipe|pipe - 1 8
---users - --mode pipe|- - 1 8
---users=-u --mode pipe|-u - 1 8
---users= --mode pipe| - 1 8
-|
---users u.txt|
---mode pipe|
---users u.txt --mode serve|
---users u.txt --mode pipe --listen 127.0.0.1:8008|
---users u.txt --mode soak|
---users u.txt --mode Pipe|
---users u.txt --mode pipe --workers 17|
---users u.txt --mode pipe --workers 0|
---users u.txt --mode pipe --workers -1|
---users u.txt --mode pipe --workers 1x|
---users u.txt --mode pipe --workers 257|
---users u.txt --mode pipe --connections 65|
---users u.txt --mode pipe --connections 0|
---users u.txt --mode pipe more|
---users u.txt --mode pipe --seed 1|
---users u.txt --mode pipe --work 1|
---users u.txt --mode pipe -w 1|
---users u.txt --mode|
---users --mode pipe|
---users -u --mode pipe|
---users u.txt --mode pipe --mode pipe|
---users u.txt --users u.txt --mode pipe|
---users u.txt --mode pipe --help|
---users u.txt --mode pipe --version|
---users u.txt -- --mode pipe|
-mxsync --users u.txt --mode pipe|
+--users u.txt --mode pipe|u.txt - 1 8 1000
+--mode pipe --users u.txt|u.txt - 1 8 1000
+--users=u.txt --mode=pipe|u.txt - 1 8 1000
+--users u.txt --mode pipe --workers 16 --connections 64|u.txt - 16 64 1000
+--workers=1 --connections=1 --users u.txt --mode pipe|u.txt - 1 1 1000
+--users u.txt --mode pipe --workers +3 --connections 010|u.txt - 3 10 1000
+--users u.txt --mode serve --listen 127.0.0.1:8008|u.txt 127.0.0.1:8008 1 8 1000
+--listen [::1]:80 --connections 2 --mode serve --workers 4 --users a/b.txt|a/b.txt [::1]:80 4 2 1000
+--users u.txt --mode pipe --requests 1|u.txt - 1 8 1
+--requests=4294967296 --users u.txt --mode pipe|u.txt - 1 8 4294967296
+--users pipe --mode pipe|pipe - 1 8 1000
+--users - --mode pipe|- - 1 8 1000
+--users=-u --mode pipe|-u - 1 8 1000
+--users= --mode pipe| - 1 8 1000
+--help|help
+-h|help
+--users u.txt --mode pipe --help|help
+--help --seed 1|help
+--version|version
+-V|version
+--users u.txt --mode serve --version|version
+|!the following required arguments were not provided: --users <FILE> --mode <MODE>
+--users u.txt|!the following required arguments were not provided: --mode <MODE>
+--mode pipe|!the following required arguments were not provided: --users <FILE>
+--users u.txt --mode serve|!mode serve needs --listen ADDRESS
+--users u.txt --mode pipe --listen 127.0.0.1:8008|!mode pipe takes no --listen: 127.0.0.1:8008
+--users u.txt --mode soak|!the mode is neither pipe nor serve: soak
+--users u.txt --mode Pipe|!the mode is neither pipe nor serve: Pipe
+--users u.txt --mode soak --listen 127.0.0.1:8008|!the mode is neither pipe nor serve: soak
+--users u.txt --mode pipe --workers 17|!invalid value '17' for '--workers <N>': 17 is not in 1..=16
+--users u.txt --mode pipe --workers 0|!invalid value '0' for '--workers <N>': 0 is not in 1..=16
+--users u.txt --mode pipe --workers -1|!unexpected argument '-1' found
+--users u.txt --mode pipe --workers 1x|!invalid value '1x' for '--workers <N>': invalid digit found in string
+--users u.txt --mode pipe --workers 257|!invalid value '257' for '--workers <N>': 257 is not in 1..=16
+--users u.txt --mode pipe --connections 65|!invalid value '65' for '--connections <N>': 65 is not in 1..=64
+--users u.txt --mode pipe --connections 0|!invalid value '0' for '--connections <N>': 0 is not in 1..=64
+--users u.txt --mode pipe --requests 0|!invalid value '0' for '--requests <N>': 0 is not in 1..=4294967296
+--users u.txt --mode pipe --requests 4294967297|!invalid value '4294967297' for '--requests <N>': 4294967297 is not in 1..=4294967296
+--users u.txt --mode pipe more|!unexpected argument 'more' found
+--users u.txt --mode pipe --seed 1|!unexpected argument '--seed' found
+--seed 1 --help|!unexpected argument '--seed' found
+--users u.txt --mode pipe --work 1|!unexpected argument '--work' found
+--users u.txt --mode pipe -w 1|!unexpected argument '-w' found
+--users u.txt --mode pipe --help=x|!unexpected value 'x' for '--help' found; no more were expected
+--users u.txt --mode|!a value is required for '--mode <MODE>' but none was supplied
+--users --mode pipe|!a value is required for '--users <FILE>' but none was supplied
+--users -u --mode pipe|!unexpected argument '-u' found
+--users u.txt --mode pipe --mode pipe|!the argument '--mode <MODE>' cannot be used multiple times
+--users u.txt --users u.txt --mode pipe|!the argument '--users <FILE>' cannot be used multiple times
+--users u.txt -- --mode pipe|!unexpected argument '--mode' found
+mxsync --users u.txt --mode pipe|!unexpected argument 'mxsync' found
+";
+
+/// The help.
+const HELP: &str = "\
+The sync engine of a Matrix homeserver for local users
+
+Usage: mxsync [OPTIONS] --users <FILE> --mode <MODE>
+
+Options:
+      --users <FILE>      The users file
+      --mode <MODE>       pipe: one connection over the standard input and output; serve: connections at an address
+      --listen <ADDRESS>  The address of mode serve, as 127.0.0.1:8008
+      --workers <N>       Writers of each stream, 1 to 16 [default: 1]
+      --connections <N>   Connections at once in mode serve, 1 to 64 [default: 8]
+      --requests <N>      Requests that a connection is served, 1 to 4294967296 [default: 1000]
+  -h, --help              Print help
+  -V, --version           Print version
 ";
 
 /// The words of a text, which stand between spaces.
@@ -58,7 +87,7 @@ fn split(alloc: Global, text: &str) -> Result<Vec<String>, AllocError> {
     Ok(words)
 }
 
-/// Whether words say this: the users file, the address, the writers and the connections.
+/// Whether words say this: the users file, the address, the writers, the connections and the requests.
 fn say(words: &Words, told: &str) -> bool {
     let address = match &words.mode {
         Mode::Pipe => "-",
@@ -67,13 +96,14 @@ fn say(words: &Words, told: &str) -> bool {
     let mut fields = told.split(' ');
     fields.next() == Some(words.users.as_str())
         && fields.next() == Some(address)
-        && is_number(fields.next(), words.workers)
-        && is_number(fields.next(), words.connections)
+        && is_number(fields.next(), u64::from(words.workers))
+        && is_number(fields.next(), u64::from(words.connections))
+        && is_number(fields.next(), words.requests)
 }
 
-fn is_number(field: Option<&str>, number: u8) -> bool {
+fn is_number(field: Option<&str>, number: u64) -> bool {
     match field {
-        Some(text) => text.parse::<u8>() == Ok(number),
+        Some(text) => text.parse::<u64>() == Ok(number),
         None => false,
     }
 }
@@ -84,8 +114,10 @@ fn is_read(alloc: Global, line: &str) -> Result<bool, AllocError> {
         return Ok(false);
     };
     match read_words(alloc, split(alloc, text)?.as_slice()) {
-        Ok(words) => Ok(say(&words, told)),
-        Err(WordsFault::Usage) => Ok(told.is_empty()),
+        Ok(Asked::Run(words)) => Ok(say(&words, told)),
+        Ok(Asked::Help(text)) => Ok(told == "help" && text.as_str() == HELP),
+        Ok(Asked::Version(text)) => Ok(told == "version" && text.as_str() == "mxsync 0.1.0\n"),
+        Err(WordsFault::Usage(why)) => Ok(told.strip_prefix('!') == Some(why.as_str())),
         Err(WordsFault::Memory) => Err(AllocError),
     }
 }
@@ -105,7 +137,8 @@ fn first_other(alloc: Global, table: &str) -> Result<u64, AllocError> {
 #[test]
 fn words_are_read_or_refused(rt: HostRuntime) -> Result<(), Fail> {
     assert_eq!(rt; first_other(rt.alloc(), TABLE)?, 0);
-    let eight = "--users u.txt --mode pipe|u.txt - 1 8\n--users u.txt --mode pipe|u.txt - 1 9\n";
+    let eight =
+        "--users u.txt --mode pipe|u.txt - 1 8 1000\n--users u.txt --mode pipe|u.txt - 1 9 1000\n";
     assert_eq!(rt; first_other(rt.alloc(), eight)?, 2);
     Ok(())
 }

@@ -140,7 +140,7 @@ fn server(
 fn shared(alloc: Global, engine: Engine<Holding>) -> Result<Arc<Server<Holding>>, Memory>
     ensures { IfOk result (λ server. (arc_value server).engine ≡ engine) }
 {
-    Ok(Arc::new(alloc, Server::new(alloc, engine)?)?)
+    Ok(Arc::new(alloc, Server::new(alloc, engine, 1000)?)?)
 }
 
 /// Two seats of a server.

@@ -1,6 +1,6 @@
-//! How connections end: by a request that asks for it, by the 1,000th answer, inside a body, by what is no request; and a users file that
-//! is too long.
-use crate::make::{Case, answer, expect, usual_case};
+//! How connections end: by a request that asks for it, by the last answer, inside a body, by what is no request; and a users file that is
+//! too long.
+use crate::make::{Case, answer, expect, expect_by, usual_case, words};
 use crate::sessions::{Session, read_table};
 use mx_ids::Memory;
 use std::alloc::Global;
@@ -74,6 +74,37 @@ fn the_1000th_request_may_ask_to_close(rt: HostRuntime) -> Result<(), Fail> {
     Ok(())
 }
 
+/// A run with `--requests` and this number, over three requests, ends with this status after these answers.
+fn ends_after<R: Abort + Wait + rt::Clock + Threads + Copy + Drop + Send + 'static>(
+    rt: &R,
+    alloc: Global,
+    number: &str,
+    status: u8,
+    answers: &str,
+    told: &str,
+) -> Result<(), Memory> {
+    let mut words = words(alloc, "users", "pipe")?;
+    words.push(String::from_str(alloc, "--requests")?)?;
+    words.push(String::from_str(alloc, number)?)?;
+    let requests = "GET /_matrix/client/versions HTTP/1.1\r\n\r\n".repeat(alloc, 3)?;
+    let case = usual_case(requests.as_str());
+    expect_by(rt, alloc, words.as_slice(), &case, status, answers, told)
+}
+
+#[test]
+fn a_connection_has_at_most_as_many_answers_as_the_words_say(rt: HostRuntime) -> Result<(), Fail> {
+    let alloc = rt.alloc();
+    let one = answer(alloc, "200 OK", "", VERSIONS)?;
+    let last = answer(alloc, "200 OK", "Connection: close\r\n", VERSIONS)?;
+    let told = "mxsync: request stream\n";
+    ends_after(&rt, alloc, "1", 1, last.as_str(), told)?;
+    let two = format!(in alloc; "{one}{last}")?;
+    ends_after(&rt, alloc, "2", 1, two.as_str(), told)?;
+    let three = format!(in alloc; "{one}{one}{one}")?;
+    ends_after(&rt, alloc, "4", 0, three.as_str(), "")?;
+    Ok(())
+}
+
 #[test]
 fn a_body_that_is_cut_gets_no_answer(rt: HostRuntime) -> Result<(), Fail> {
     let mut session = read_table(
@@ -132,6 +163,7 @@ fn ends_by_lines<R: Abort + Wait + rt::Clock + Threads + Copy + Drop + Send + 's
 fn a_users_file_has_at_most_1048576_bytes(rt: HostRuntime) -> Result<(), Fail> {
     let alloc = rt.alloc();
     ends_by_lines(&rt, alloc, 1_048_541, 0, "")?;
-    ends_by_lines(&rt, alloc, 1_048_542, 3, "mxsync: users file, line 0\n")?;
+    let told = "mxsync: users file, line 0: users: more than 1048576 bytes\n";
+    ends_by_lines(&rt, alloc, 1_048_542, 3, told)?;
     Ok(())
 }

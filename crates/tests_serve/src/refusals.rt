@@ -87,7 +87,7 @@ fn server_up_to(
         stop,
     };
     let (engine, pass) = engine(alloc, setup, Open)?;
-    match Server::new(alloc, engine) {
+    match Server::new(alloc, engine, 1000) {
         Ok(server) => Ok((server, pass)),
         Err(refused) => {
             drop(pass);

@@ -15,7 +15,8 @@ fn other_words_end_a_run(rt: HostRuntime) -> Result<(), Fail> {
         mode: "pipes",
         ..usual_case("")
     };
-    expect(&rt, rt.alloc(), &case, 2, "", "mxsync: usage\n")?;
+    let told = "mxsync: usage: the mode is neither pipe nor serve: pipes\n";
+    expect(&rt, rt.alloc(), &case, 2, "", told)?;
     Ok(())
 }
 
@@ -25,8 +26,24 @@ fn words_without_a_users_file_end_a_run(rt: HostRuntime) -> Result<(), Fail> {
     let mode = String::from_str(alloc, "--mode")?;
     let pipe = String::from_str(alloc, "pipe")?;
     let words = Vec::from_array(alloc, [mode, pipe])?;
-    let told = "mxsync: usage\n";
+    let told =
+        "mxsync: usage: the following required arguments were not provided: --users <FILE>\n";
     expect_by(&rt, alloc, words.as_slice(), &usual_case(""), 2, "", told)?;
+    Ok(())
+}
+
+#[test]
+fn the_version_is_put_to_the_output(rt: HostRuntime) -> Result<(), Fail> {
+    let alloc = rt.alloc();
+    let words = Vec::from_array(alloc, [String::from_str(alloc, "--version")?])?;
+    let case = usual_case("no request\r\n\r\n");
+    expect_by(&rt, alloc, words.as_slice(), &case, 0, "mxsync 0.1.0\n", "")?;
+    let failing = Case {
+        failing_write: 0,
+        ..case
+    };
+    let told = "mxsync: outside\n";
+    expect_by(&rt, alloc, words.as_slice(), &failing, 4, "", told)?;
     Ok(())
 }
 
@@ -47,9 +64,9 @@ fn refuses_users<R: Abort + Wait + rt::Clock + Threads + Copy + Drop + Send + 's
 #[test]
 fn a_users_file_with_a_line_of_another_form_ends_a_run(rt: HostRuntime) -> Result<(), Fail> {
     let alloc = rt.alloc();
-    let first = "mxsync: users file, line 1\n";
-    let second = "mxsync: users file, line 2\n";
-    let third = "mxsync: users file, line 3\n";
+    let first = "mxsync: users file, line 1: users\n";
+    let second = "mxsync: users file, line 2: users\n";
+    let third = "mxsync: users file, line 3: users\n";
     refuses_users(&rt, alloc, "alice A1 tok_a1\n", first)?;
     refuses_users(&rt, alloc, "server example.org\nalice A1\n", second)?;
     refuses_users(&rt, alloc, "server example.org\nalice  A1 tok_a1\n", second)?;
@@ -123,10 +140,29 @@ fn a_fault_of_the_outside_ends_a_run(rt: HostRuntime) -> Result<(), Fail> {
         ..one
     };
     expect(&rt, alloc, &first_write, 4, "", told)?;
-    let other_file = Case {
+    Ok(())
+}
+
+#[test]
+fn a_users_file_that_is_not_read_is_named_in_one_line(rt: HostRuntime) -> Result<(), Fail> {
+    let alloc = rt.alloc();
+    let other = Case {
         file: "other",
-        ..one
+        ..usual_case("")
     };
-    expect(&rt, alloc, &other_file, 4, "", told)?;
+    expect(
+        &rt,
+        alloc,
+        &other,
+        4,
+        "",
+        "mxsync: outside: other: can't be read\n",
+    )?;
+    let controls = Case {
+        file: "\u{1b}é\n\u{85}\u{7f}ü",
+        ..usual_case("")
+    };
+    let told = "mxsync: outside:  é   ü: can't be read\n";
+    expect(&rt, alloc, &controls, 4, "", told)?;
     Ok(())
 }

@@ -137,7 +137,7 @@ fn a_server_serves_all_that_come(rt: HostRuntime) -> Result<(), Fail> {
 #[test]
 fn a_listener_that_fails_ends_a_server(rt: HostRuntime) -> Result<(), Fail> {
     let alloc = rt.alloc();
-    let unbound = "mxsync: listener\n";
+    let unbound = "mxsync: listener: here: can't be bound\n";
     assert_eq!(rt; served(&rt, alloc, 0, NEVER, unbound)?, (6, 0));
     let bound = "mxsync: listening on here\nmxsync: listener\n";
     assert_eq!(rt; served(&rt, alloc, 1, NEVER, bound)?, (6, 0));

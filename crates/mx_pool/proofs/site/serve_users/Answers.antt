@@ -6,14 +6,14 @@ use Rattle.mx_pool.proofs.site.serve_users.Goals as goal
 pub returns : goal.returns
 returns g c =
     let done = c.serve_connection-ended in
-    serves c.args.directory c.args.workers
+    serves c.args.directory c.args.workers c.args.limit
     (change (g.S.Source.left c.args.input.now) (g.S.Source.left done.new.input))
     (change (g.K.Sink.written c.args.output.now) (g.K.Sink.written done.new.output))
     (change (g.S.Source.faults c.args.input.now) (g.S.Source.faults done.new.input))
     (change (g.K.Sink.faults c.args.output.now) (g.K.Sink.faults done.new.output))
     (change (g.C.Clock.last c.args.clock.now) (g.C.Clock.last done.new.clock))
     done.result (stores_of done.new.pass)
-    (site_of c.in-Ok.server.engine) (stops_of c.in-Ok.server.engine) (stores_of c.in-Ok.pass) c.status_of.result
-    c.in-Ok.ensures.site c.in-Ok.ensures.stops c.in-Ok.ensures.nothing
+    (site_of c.in-Ok.server.engine) (stops_of c.in-Ok.server.engine) c.in-Ok.server.limit (stores_of c.in-Ok.pass) c.status_of.result
+    c.in-Ok.ensures.site c.in-Ok.ensures.stops c.in-Ok.ensures.limit c.in-Ok.ensures.nothing
     done.ensures.served done.ensures.valid done.ensures.lawful
     done.ensures.reads done.ensures.writes c.status_of.ensures

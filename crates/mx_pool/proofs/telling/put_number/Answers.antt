@@ -1,24 +1,13 @@
-use Rattle.std.proofs.Common.{◌≡◌, ℕ, List, [], ◌∷◌, ◌++◌, decimal, refl, ◌∙◌, subst}
-use Rattle.mx_pool.specs.Runs.{Tells}
-use Rattle.mx_pool.proofs.Outcomes.{tells_more, tells_part}
+use Rattle.std.proofs.Common.{◌≡◌, ℕ, List, ◌++◌, decimal, option_map, ◌∙◌, subst}
+use Rattle.mx_pool.specs.Lines.{Tells, end_of}
 use Rattle.mx_pool.proofs.telling.put_number.Goals as goal
 
-pub returns-in-Failed : goal.returns-in-Failed
-returns-in-Failed g c =
+pub returns : goal.returns
+returns g c =
     let old = g.E.Sink.written c.args.errors.now in
-    let new = g.E.Sink.written c.put.new.self in
-    let before = g.E.Sink.faults c.args.errors.now in
-    let now = g.E.Sink.faults c.put.new.self in
-    let text : c.as_bytes.result.now ≡ decimal c.args.number = c.as_bytes.ensures.value ∙ c.format.ensures.text in
-    subst (λ (t : List ℕ). Tells old new before now (t ++ 10 ∷ [])) text (tells_part old new before now c.as_bytes.result.now (10 ∷ []) c.in-Failed.ensures.bytes (c.in-Failed.ensures.cause refl))
-
-pub returns-in-Done : goal.returns-in-Done
-returns-in-Done g c =
-    let old = g.E.Sink.written c.args.errors.now in
-    let mid = g.E.Sink.written c.put.new.self in
     let new = g.E.Sink.written c.put_line.new.errors in
     let before = g.E.Sink.faults c.args.errors.now in
-    let between = g.E.Sink.faults c.put.new.self in
     let now = g.E.Sink.faults c.put_line.new.errors in
-    let text : c.as_bytes.result.now ≡ decimal c.args.number = c.as_bytes.ensures.value ∙ c.format.ensures.text in
-    subst (λ (t : List ℕ). Tells old new before now (t ++ 10 ∷ [])) text (tells_more old mid new before between now c.as_bytes.result.now (10 ∷ []) c.in-Done.ensures.bytes c.in-Done.ensures.count c.put_line.ensures)
+    let about = option_map (λ s. s.now) c.args.about in
+    let text : c.as_bytes.result.now ≡ decimal c.args.line = c.as_bytes.ensures.value ∙ c.format.ensures.text in
+    subst (λ (p : List ℕ × List ℕ). Tells old new before now (p.0 ++ end_of about p.1)) (λ i. (text i, c.says_of.ensures i)) c.put_line.ensures

@@ -9,6 +9,6 @@ returns-in-Failed g c =
 
 pub returns-in-Done : goal.returns-in-Done
 returns-in-Done g c =
-    tells_more (g.E.Sink.written c.args.errors.now) (g.E.Sink.written c.put.new.self) (g.E.Sink.written c.put_address.new.errors)
-    (g.E.Sink.faults c.args.errors.now) (g.E.Sink.faults c.put.new.self) (g.E.Sink.faults c.put_address.new.errors)
-    (codes "mxsync: listening on ") (c.args.address.now ++ codes "\n") c.in-Done.ensures.bytes c.in-Done.ensures.count c.put_address.ensures
+    tells_more (g.E.Sink.written c.args.errors.now) (g.E.Sink.written c.put.new.self) (g.E.Sink.written c.put_about.new.errors)
+    (g.E.Sink.faults c.args.errors.now) (g.E.Sink.faults c.put.new.self) (g.E.Sink.faults c.put_about.new.errors)
+    (codes "mxsync: listening on ") (c.args.address.now ++ codes "\n") c.in-Done.ensures.bytes c.in-Done.ensures.count c.put_about.ensures

@@ -1,10 +1,10 @@
-use Rattle.std.proofs.Common.{◌∙◌, Some, ap, option_map, sym}
+use Rattle.std.proofs.Common.{◌∙◌, ap, sym}
 use Rattle.clap.specs.Words.{found_of}
 use Rattle.clap.proofs.WalkLemmas.{one_text-rows}
-use Rattle.mx_words.specs.Words.{number_of}
+use Rattle.mx_words.specs.Words.{number_in}
 use Rattle.mx_words.proofs.matches.number.Goals as goal
 
 pub returns : goal.returns
 returns c =
     let read = c.in-Some.ensures.value c.requires.0 c.requires.1 in
-    ap (option_map number_of) (sym (one_text-rows (found_of c.args.matches.now) c.args.id.now) ∙ c.requires.1) ∙ ap Some (sym read.0.1)
+    sym (ap number_in (sym (one_text-rows (found_of c.args.matches.now) c.args.id.now) ∙ c.requires.1) ∙ sym read.0.1)

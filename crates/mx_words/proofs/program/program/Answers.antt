@@ -8,4 +8,5 @@ returns c =
     let mode = added _ _ _ c.in_ok-arg-2.ensures c.text_arg-2.ensures.local users c.text_arg-2.ensures.rule in
     let listen = added _ _ _ c.in_ok-arg-3.ensures c.text_arg-3.ensures.local mode c.text_arg-3.ensures.rule in
     let workers = added _ _ _ c.in_ok-arg-4.ensures c.number_arg.ensures.local listen c.number_arg.ensures.rule in
-    IfOk-weaker c.arg-5.result _ _ (λ whole adds. added _ _ _ adds c.number_arg-2.ensures.local workers c.number_arg-2.ensures.rule) c.arg-5.ensures
+    let connections = added _ _ _ c.in_ok-arg-5.ensures c.number_arg-2.ensures.local workers c.number_arg-2.ensures.rule in
+    IfOk-weaker c.arg-6.result _ _ (λ whole adds. added _ _ _ adds c.number_arg-3.ensures.local connections c.number_arg-3.ensures.rule) c.arg-6.ensures
