@@ -1,5 +1,5 @@
 -- What a user is told of a room, by the lists up to their fronts.
-use Rattle.std.specs.Prelude.{◌≡◌, ℕ, ◌^◌, ◌-◌, ◌&&◌, Bool, true, false, not, cond, List, map, nat_eq, Option, Some, None, is_some, option_and_then, option_map, unwrap_or}
+use Rattle.std.specs.Prelude.{◌≡◌, ℕ, ◌^◌, ◌-◌, ◌||◌, Bool, true, not, cond, List, map, nat_eq, Option, Some, None, is_some, option_and_then, option_map, unwrap_or}
 use Rattle.std.specs.List.{filter, AllByRecursion}
 use Rattle.mx_ask.specs.declared.refusal.Refusal.TheVariants as refusal
 use Rattle.mx_ask.specs.declared.said.Said.{Said}
@@ -91,18 +91,12 @@ room_state_said l user room = cond (has_room l room) (read_at (state_said l user
 abbrev pub gives : List ℕ → Event → Bool
 gives membership e = is_text membership (membership_in e.content)
 
--- it gives the membership that is asked for, if one is
-abbrev pub is_asked : Option (List ℕ) → Event → Bool
-is_asked None e = true
-is_asked (Some membership) e = gives membership e
-
--- it gives the membership that isn't wanted
-abbrev pub is_unwanted : Option (List ℕ) → Event → Bool
-is_unwanted None e = false
-is_unwanted (Some membership) e = gives membership e
-
+-- it is selected: by both it is enough that it gives the one or doesn't give the other
 abbrev pub is_selected : Option (List ℕ) → Option (List ℕ) → Event → Bool
-is_selected membership not_membership e = is_asked membership e && not (is_unwanted not_membership e)
+is_selected None None e = true
+is_selected (Some membership) None e = gives membership e
+is_selected None (Some not_membership) e = not (gives not_membership e)
+is_selected (Some membership) (Some not_membership) e = gives membership e || not (gives not_membership e)
 
 -- the members at a position
 abbrev pub members_said : Lists → List ℕ → RoomId → Option (List ℕ) → Option (List ℕ) → ℕ → Said

@@ -17,7 +17,7 @@ use std::alloc::Global;
 
 /// The member events of a room's state, in order of position, as they are shown to a user (Client-Server API,
 /// `GET /rooms/{roomId}/members`): of the state at the front where the user is joined, and where its latest stay ended if it
-/// left. Of them those that give `membership`, and not `not_membership`, where these are there.
+/// left. Of them those that give `membership`, those that don't give `not_membership`, and with both of these those of either kind.
 ///
 /// `NotFound` where the room isn't there, `Forbidden` to a user that was never joined. Takes the time of some searches, and
 /// of one for each member event of the room.
@@ -95,29 +95,21 @@ fn keep<'a>(
 ) -> Result<(), Memory>
     ensures { OnOk result (all_now made.new.items ≡ all_now made.old.items ++ filter (read.is_selected membership.now not_membership.now) (member.now ∷ [])) }
 {
-    if is_asked(member, membership) && !is_unwanted(member, not_membership) {
+    if is_selected(member, membership, not_membership) {
         made.push(member)?;
     }
     Ok(())
 }
 
-/// Whether it gives the membership that is asked for, if one is.
-fn is_asked(member: &Event, membership: &Option<Text>) -> bool
-    ensures { result ≡ read.is_asked membership.now member.now }
+/// Whether it gives the one membership or doesn't give the other, of those that are there.
+fn is_selected(member: &Event, membership: &Option<Text>, not_membership: &Option<Text>) -> bool
+    ensures { result ≡ read.is_selected membership.now not_membership.now member.now }
 {
-    match membership {
-        Some(membership) => gives(member, membership),
-        None => true,
-    }
-}
-
-/// Whether it gives the membership that isn't wanted.
-fn is_unwanted(member: &Event, membership: &Option<Text>) -> bool
-    ensures { result ≡ read.is_unwanted membership.now member.now }
-{
-    match membership {
-        Some(membership) => gives(member, membership),
-        None => false,
+    match (membership, not_membership) {
+        (None, None) => true,
+        (Some(wanted), None) => gives(member, wanted),
+        (None, Some(unwanted)) => !gives(member, unwanted),
+        (Some(wanted), Some(unwanted)) => gives(member, wanted) || !gives(member, unwanted),
     }
 }
 
