@@ -18,6 +18,7 @@ mod answered;
 mod asking;
 mod filing;
 mod held;
+mod knowing;
 mod laws;
 mod noting;
 mod passes;
@@ -25,6 +26,7 @@ mod reading;
 mod seat;
 mod start;
 mod taking;
+mod waiting;
 mod writes;
 
 pub use answered::{Answered, Counts, Mark};

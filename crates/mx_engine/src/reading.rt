@@ -43,6 +43,8 @@ impl EnginePass {
             full: None,
             now,
             memory: false,
+            told: None,
+            marker_told: None,
         }
     }
 
@@ -72,7 +74,7 @@ impl EnginePass {
     }
 
     /// The answer where memory was wanting before a writer was asked.
-    pub(crate) fn no_memory(&self, now: u64) -> Answered
+    pub fn no_memory(&self, now: u64) -> Answered
         ensures said { result.said ≡ Said.NoMemory }
         ensures mark { result.mark ≡ record (reading now (stores_of self.now)) { memory = true } }
     {
@@ -101,14 +103,9 @@ impl<G: Gate + Drop> Engine<G> {
         pass.accounts.glance(self.accounts.stream());
     }
 
-    /// A look at each stream, after which the pass knows what it has seen. Where nothing was stored since it knew of all that it
+    /// A look at each stream, after which the pass knows what it has seen. The pass is one of the engine's. Where nothing was stored since it knew of all that it
     /// had seen it waits for nobody.
-    pub(crate) fn look<R: Wait>(
-        &self,
-        rt: &R,
-        alloc: Global,
-        pass: &mut EnginePass,
-    ) -> Result<(), Memory>
+    pub fn look<R: Wait>(&self, rt: &R, alloc: Global, pass: &mut EnginePass) -> Result<(), Memory>
         requires ties { Ties self.now pass.old }
         ensures ties { Ties self.now pass.new }
         ensures begins { Grows (stores_of pass.old) (stores_of pass.new) }

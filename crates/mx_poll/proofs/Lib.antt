@@ -1,2 +1,6 @@
 mod AtOnce
+mod Judging
 mod Later
+mod Standing
+mod Staying
+mod Waited

@@ -20,7 +20,6 @@ use Rattle.mx_api_room.proofs.route.Route.TheSendSync as room_route
 use Rattle.mx_api_user.specs.contracts.ask.UserRoutes as UserRoutes
 use Rattle.mx_api_user.specs.contracts.route.Route as UserRoute
 use Rattle.mx_api_user.proofs.route.Route.TheSendSync as user_route
-use Rattle.mx_wait.proofs.waiters.Waiters.TheSendSync as waiters
 use Rattle.mx_writers.specs.declared.gate.Gate.{Ghosts}
 use Rattle.mx_engine.proofs.Crosses.{engine_send, engine_sync}
 use Rattle.mx_serve.specs.contracts.call_asked.Routes as Routes
@@ -66,7 +65,7 @@ routes_sync = declared_sync Routes.the_type (
 
 module _ (G : RattleType) (gate : Ghosts G.Denot) where
   pub server_send : IsSend G → IsSend (Server.the_row G gate)
-  server_send g = declared_send (Server.the_type G gate) (engine_send G gate g, (routes_send, (waiters.the_send, (search sendable depth 9, tt))))
+  server_send g = declared_send (Server.the_type G gate) (engine_send G gate g, (routes_send, (search sendable depth 9, tt)))
 
   pub server_sync : IsSync G → IsSync (Server.the_row G gate)
-  server_sync g = declared_sync (Server.the_type G gate) (engine_sync G gate g, (routes_sync, (waiters.the_sync, (search sendable depth 9, tt))))
+  server_sync g = declared_sync (Server.the_type G gate) (engine_sync G gate g, (routes_sync, (search sendable depth 9, tt)))

@@ -7,6 +7,8 @@ use Rattle.mx_render.specs.Rendered.{no_memory_text, said_status, said_text}
 use Rattle.mx_writers.specs.Decision.{Placing}
 use Rattle.mx_fold.specs.Lists.{Histories, lists_of}
 use Rattle.mx_acts.specs.Acts.{Act, Files, Marks, Notes, Puts, Reads, Sends, asked}
+use Rattle.mx_wait.specs.declared.names.StreamName.{StreamName}
+use Rattle.mx_wait.specs.declared.names.StreamName.TheVariants.{Accounts, Events, Receipts}
 use Rattle.mx_engine.specs.Answers.{IsAnswered, KeepsAct, KeepsBoth, KeepsEntry, KeepsMarker, KeepsNote, KeepsPut, KeepsReceipt, KeepsWrites, LeavesReceipts, Stops, TellsMarker, act_said, counts_of, filed, of_marker, reading}
 use Rattle.mx_aims.specs.Stored.{EntryAimed, EntryPut, Note, NoteAimed, ReceiptAimed, ReceiptPut, marker_put, receipts_put}
 use Rattle.mx_aims.specs.Asked.{Site}
@@ -33,27 +35,27 @@ abbrev blank : Bool → ℕ → Histories → Mark
 blank memory now lists = record (reading now lists) { memory = memory }
 
 pub idle_blank : (memory : Bool) (now : ℕ) (lists : Histories) → IsIdle (blank memory now lists) (counts_of lists)
-idle_blank memory now lists = record { read = record { lane = refl; own_is = refl; full = refl }; marker_is = refl; same = refl }
+idle_blank memory now lists = record { read = record { lane = refl; own_is = refl; full = refl; told = refl }; marker_is = refl; marker_told_is = refl; same = refl }
 
 same_response : (status_a status_b : ℕ) (text_a text_b : List ℕ) → status_a ≡ status_b → text_a ≡ text_b → response status_a text_a ≡ response status_b text_b
 same_response status_a status_b text_a text_b p q = λ i. response (p i) (q i)
 
 -- a mark under which memory was wanting
-module _ {I : Type 0} (place : Placing I) (k stop : ℕ) (items : List I) (m : Mark) (old new : List (Stored I)) where
-  wanting_mark : KeepsMark place k stop items m old new → KeepsMark place k stop items (record m { memory = true }) old new
-  wanting_mark h = record { decided = λ e. absurd cc; placed = h.placed; writer = h.writer; from = h.from; upto = h.upto; all = h.all; stored = h.stored; nothing = λ own e. absurd cc; full = h.full }
+module _ {I : Type 0} (name : StreamName) (place : Placing I) (k stop : ℕ) (items : List I) (m : Mark) (old new : List (Stored I)) where
+  wanting_mark : KeepsMark name place k stop items m old new → KeepsMark name place k stop items (record m { memory = true }) old new
+  wanting_mark h = record { decided = λ e. absurd cc; placed = h.placed; writer = h.writer; from = h.from; upto = h.upto; all = h.all; stored = h.stored; nothing = λ own e. absurd cc; full = h.full; told = h.told; untold = h.untold }
 
 module _ (site : Site) (stops : Stops) where
   wanting_entry : (m : Mark) (old new : Histories) (w : EntryPut) → KeepsEntry stops m old new w → KeepsEntry stops (record m { memory = true }) old new w
-  wanting_entry m old new w h = wanting_mark _ _ _ _ m old.accounts new.accounts h
+  wanting_entry m old new w h = wanting_mark Accounts _ _ _ _ m old.accounts new.accounts h
 
   wanting_put : (m : Mark) (old new : Histories) (aimed : EntryAimed) → KeepsPut stops m old new aimed → KeepsPut stops (record m { memory = true }) old new aimed
-  wanting_put m old new (Err r) h = record { lane = h.lane; own_is = h.own_is; full = h.full }
+  wanting_put m old new (Err r) h = record { lane = h.lane; own_is = h.own_is; full = h.full; told = h.told }
   wanting_put m old new (Ok w) h = wanting_entry m old new w h
 
   wanting_marked : (m : Mark) (old new : Histories) (aimed : ReceiptAimed) → KeepsReceipt stops m old new aimed → KeepsReceipt stops (record m { memory = true }) old new aimed
-  wanting_marked m old new (Err r) h = record { lane = h.lane; own_is = h.own_is; full = h.full }
-  wanting_marked m old new (Ok w) h = wanting_mark _ _ _ _ m old.receipts new.receipts h
+  wanting_marked m old new (Err r) h = record { lane = h.lane; own_is = h.own_is; full = h.full; told = h.told }
+  wanting_marked m old new (Ok w) h = wanting_mark Receipts _ _ _ _ m old.receipts new.receipts h
 
   wanting_left : (m : Mark) (new : Histories) (w : ReceiptPut) (full : Option ℕ) → LeavesReceipts stops m new w full → LeavesReceipts stops (record m { memory = true }) new w full
   wanting_left m new w None h = λ e. absurd cc
@@ -68,13 +70,13 @@ module _ (site : Site) (stops : Stops) where
   wanting_both m old new n (Some at) h = (wanting_entry (of_marker m n.writer at) old new (marker_put n) h.0, wanting_marked m old new (Ok (receipts_put n)) h.1)
 
   wanting_note : (m : Mark) (old new : Histories) (aimed : NoteAimed) → KeepsNote stops m old new aimed → KeepsNote stops (record m { memory = true }) old new aimed
-  wanting_note m old new (Err r) h = (record { lane = h.0.lane; own_is = h.0.own_is; full = h.0.full }, h.1)
+  wanting_note m old new (Err r) h = (record { lane = h.0.lane; own_is = h.0.own_is; full = h.0.full; told = h.0.told }, h.1)
   wanting_note m old new (Ok n) h = wanting_both m old new n m.marker h
 
   wanting_writes : (act : Act) (m : Mark) (old new : Histories) → KeepsWrites stops act m old new → KeepsWrites stops act (record m { memory = true }) old new
-  wanting_writes (Reads reads) m old new h = record { lane = h.lane; own_is = h.own_is; full = h.full }
-  wanting_writes (Sends (Err r)) m old new h = record { lane = h.lane; own_is = h.own_is; full = h.full }
-  wanting_writes (Sends (Ok w)) m old new h = wanting_mark _ _ _ _ m old.events new.events h
+  wanting_writes (Reads reads) m old new h = record { lane = h.lane; own_is = h.own_is; full = h.full; told = h.told }
+  wanting_writes (Sends (Err r)) m old new h = record { lane = h.lane; own_is = h.own_is; full = h.full; told = h.told }
+  wanting_writes (Sends (Ok w)) m old new h = wanting_mark Events _ _ _ _ m old.events new.events h
   wanting_writes (Files k user filter) m old new h = wanting_entry m old new (filed k user filter) h
   wanting_writes (Puts aims) m old new h = wanting_put m old new (aims (lists_of new).events) h
   wanting_writes (Marks aims) m old new h = wanting_marked m old new (aims (lists_of new).events) h
@@ -86,7 +88,7 @@ module _ (site : Site) (stops : Stops) where
   wanting_tells (Files k user filter) m h = h
   wanting_tells (Puts aims) m h = h
   wanting_tells (Marks aims) m h = h
-  wanting_tells (Notes aims) m h = tt
+  wanting_tells (Notes aims) m h = h
 
   wanting : (act : Act) (m : Mark) (old new : Histories) → KeepsAct stops act m old new → KeepsAct stops act (record m { memory = true }) old new
   wanting act m old new h = (wanting_writes act m old new h.0, wanting_tells act m h.1)

@@ -4,23 +4,20 @@ ghost use Rattle.std.specs.Prelude.{◌≡◌, IfOk};
 use crate::call_asked::Routes;
 use mx_engine::Engine;
 use mx_ids::Memory;
-use mx_wait::Waiters;
 use mx_writers::Gate;
 use std::alloc::Global;
 
-/// What the connections of a homeserver share: its engine, the routes of the calls, those that rest in a sync until something has
-/// changed, and how many requests each of them is served.
+/// What the connections of a homeserver share: its engine, the routes of the calls, and how many requests each of them is served.
 #[derive(Drop)]
 pub struct Server<G: Gate + Drop> {
     pub(crate) engine: Engine<G>,
     pub(crate) routes: Routes,
-    pub(crate) waiters: Waiters,
     pub(crate) limit: u64,
 }
 
 impl<G: Gate + Drop> Server<G> {
-    /// A server on an engine, at which nobody rests, and which serves each connection `limit` requests. `Memory` where there is no room
-    /// for the tables of its routes.
+    /// A server on an engine, which serves each connection `limit` requests. `Memory` where there is no room for the tables of its
+    /// routes.
     pub fn new(alloc: Global, engine: Engine<G>, limit: u64) -> Result<Server<G>, Memory>
         ensures engine { IfOk result (λ s. s.engine ≡ engine) }
         ensures limit { IfOk result (λ s. s.limit ≡ limit) }
@@ -28,7 +25,6 @@ impl<G: Gate + Drop> Server<G> {
         Ok(Server {
             engine,
             routes: Routes::new(alloc)?,
-            waiters: Waiters::new(),
             limit,
         })
     }

@@ -37,4 +37,6 @@ mod users_file;
 #[cfg(test)]
 mod waits;
 #[cfg(test)]
+mod wakers;
+#[cfg(test)]
 mod words;

@@ -16,7 +16,7 @@ use std::alloc::Global;
 use std::process::Abort;
 use std::sync::Wait;
 
-fn text(rt: &impl Abort, alloc: Global, s: &str) -> Text
+pub fn text(rt: &impl Abort, alloc: Global, s: &str) -> Text
     ensures { result ≡ s.now }
 {
     Text::from_string(String::from_str(alloc, s).expect(rt, "memory"))
@@ -29,7 +29,7 @@ pub fn user(rt: &impl Abort, alloc: Global, name: &str) -> UserId {
     user_id(id).expect(rt, "a user id")
 }
 
-fn json(rt: &impl Abort, alloc: Global, s: &str) -> Json {
+pub fn json(rt: &impl Abort, alloc: Global, s: &str) -> Json {
     read(alloc, s.as_bytes()).expect(rt, "a JSON text")
 }
 
@@ -139,7 +139,7 @@ pub fn send(
 }
 
 /// What a message in a transaction asks.
-fn send_ask(rt: &impl Abort, alloc: Global, room: &str, txn: &str) -> Ask
+pub fn send_ask(rt: &impl Abort, alloc: Global, room: &str, txn: &str) -> Ask
     ensures { IsAsk result }
 {
     Ask::Send {
@@ -185,7 +185,7 @@ fn member(
 }
 
 /// What a membership call asks.
-fn member_ask(call: &str, room: Text, user: Text) -> Ask
+pub fn member_ask(call: &str, room: Text, user: Text) -> Ask
     ensures { IsAsk result }
 {
     let reason = None;

@@ -38,6 +38,8 @@ returns-clause-known g c =
       accounts = c.take_accounts.new.seat;
       snapshot = record { events = c.take_events.new.events; receipts = c.take_receipts.new.receipts; accounts = c.take_accounts.new.accounts };
       known = record { events = c.take_events.new.stores; receipts = c.take_receipts.new.stores; accounts = c.take_accounts.new.stores };
+      flag = c.args.pass.now.flag;
+      tickets = c.args.pass.now.tickets;
     } in
     known_is p c.take_accounts.result c.in_ok-take_events.ensures.all c.in_ok-take_receipts.ensures.all c.take_accounts.ensures.all
 
@@ -49,5 +51,7 @@ returns-clause-valid g c =
       accounts = c.take_accounts.new.seat;
       snapshot = record { events = c.take_events.new.events; receipts = c.take_receipts.new.receipts; accounts = c.take_accounts.new.accounts };
       known = record { events = c.take_events.new.stores; receipts = c.take_receipts.new.stores; accounts = c.take_accounts.new.stores };
+      flag = c.args.pass.now.flag;
+      tickets = c.args.pass.now.tickets;
     } in
     valid_is p c.take_accounts.result c.in_ok-take_events.ensures.all c.in_ok-take_receipts.ensures.all c.take_accounts.ensures.all

@@ -1,0 +1,24 @@
+use Rattle.std.proofs.Common.{subst, sym}
+use Rattle.mx_acts.specs.Acts.{Reads}
+use Rattle.mx_engine.specs.Shown.{stops_of, stores_of}
+use Rattle.mx_engine.proofs.Done.{none_done}
+use Rattle.mx_fold.specs.Lists.{lists_of}
+use Rattle.mx_poll.specs.Polls.{IsPolled, said_of}
+use Rattle.mx_poll.proofs.Later.{grows_none, kept_ties, waited_kept, waited_none}
+use Rattle.mx_poll.proofs.answering.wait.Goals as goal
+
+pub rest-answered-requires-clause-ties : goal.rest-answered-requires-clause-ties
+rest-answered-requires-clause-ties g c = kept_ties c.args.engine.now c.args.pass.now c.flag.new.self c.flag.ensures c.requires.ties
+
+pub rest-answered-requires-clause-polled : goal.rest-answered-requires-clause-polled
+rest-answered-requires-clause-polled g c = subst (λ p. IsPolled c.args.waiting (lists_of (stores_of p))) (sym c.flag.ensures) c.requires.polled
+
+pub returns-in-Ok-clause-done : goal.returns-in-Ok-clause-done
+returns-in-Ok-clause-done g c =
+    waited_kept c.args.engine.now (Reads (said_of c.args.waiting)) c.args.pass.now c.flag.new.self c.rest-answered.new.pass c.keep.new.self c.rest-answered.result c.flag.ensures c.keep.ensures c.rest-answered.ensures.done
+
+pub returns-in-Err-clause-done : goal.returns-in-Err-clause-done
+returns-in-Err-clause-done g c =
+    waited_none c.args.engine.now (Reads (said_of c.args.waiting)) c.args.pass.now c.flag.new.self c.no_memory.result c.flag.ensures c.requires.ties
+    (none_done (stops_of c.args.engine.now) (Reads (said_of c.args.waiting)) c.args.now (stores_of c.flag.new.self) (stores_of c.flag.new.self) c.no_memory.result (grows_none _)
+    c.no_memory.ensures.said c.no_memory.ensures.mark)
