@@ -1,0 +1,4 @@
+mod Keyed
+mod Rests
+mod Forward
+mod Values
