@@ -54,6 +54,7 @@ use Rattle.mx_fold.proofs.Following.{followers_reach}
 use Rattle.mx_refold.specs.Clients.{redacted_client}
 use Rattle.mx_refold.proofs.Exchanges as redacting
 use Rattle.mx_chains.specs.Heard.{asked_of, exchange_of, exchanges_of, heard, is_of_device}
+use Rattle.mx_chains.proofs.Seeing.{pages_see}
 use Rattle.mx_chains.proofs.Hearing.{Alike, IsTaken, page_alike, sync_alike}
 
 abbrev Taken : Type 0
@@ -329,9 +330,12 @@ clients_redact site all rs answers h lawful user device f folds =
     (marks_of rs answers) device f folds)
 
 pub clients_see : ClientsSee
-clients_see site all rs answers h lawful user device =
-    all_seen site all lawful user device rs answers h
-    (connections_see (server_for user) all (all_asks site all lawful user device rs answers) (marks_of rs answers))
+clients_see site all rs answers h lawful = record {
+  sent = λ user device.
+      all_seen site all lawful user device rs answers h
+      (connections_see (server_for user) all (all_asks site all lawful user device rs answers) (marks_of rs answers));
+  pages = pages_see site all rs answers h;
+}
 
 pub answers_see : AnswersSee
 answers_see site stops all before rs answers h lawful = clients_see site all rs answers (are_answers site stops all before rs answers h) lawful

@@ -1,3 +1,4 @@
 mod Behind
+mod Seeing
 pub mod Chaining
 mod Hearing

@@ -17,6 +17,7 @@ use Rattle.mx_engine.specs.Exchanges.{AreExchanges, first_of}
 use Rattle.mx_engine.specs.declared.answered.Answered.{Answered}
 use Rattle.mx_engine.specs.declared.answered.Counts.{Counts}
 use Rattle.mx_chains.specs.Heard.{exchanges_of}
+use Rattle.mx_chains.specs.Seen.{PagesSee}
 
 -- each device's chain with each filter that picks state by type and room agrees with the picture at its token, with every
 -- gap filled by the events that it stands for
@@ -25,9 +26,11 @@ Agree site all requests answers =
     (user : List ℕ) (device : ℕ) (f : Selection) → sieves.folds f ≡ true
     → IfSome (chain (server_for user) device f None (exchanges_of site user device all requests answers)) (Agrees (server_for user) user f (lists_of all))
 
--- each event that a timeline or a page sends to a device is visible to its user at the front of the lists at the mark
-abbrev pub See : Site → Histories → List Request → List Answered → Type 0
-See site all requests answers = (user : List ℕ) (device : ℕ) → AreSent (server_for user) (exchanges_of site user device all requests answers)
+-- each event that a timeline or a gap's page sends to a device is visible to its user at the front of the lists at the mark, and so is each
+-- event of every other page: forward ones, and those from a sync token
+pub record See (site : Site) (all : Histories) (requests : List Request) (answers : List Answered) : Type 0 where
+  pub sent : (user : List ℕ) (device : ℕ) → AreSent (server_for user) (exchanges_of site user device all requests answers)
+  pub pages : PagesSee site all requests answers
 
 abbrev pub AnswersAgree : Type 0
 AnswersAgree = (site : Site) (stops : Stops) (all : Histories) (before : Counts) (requests : List Request) (answers : List Answered)
