@@ -16,7 +16,7 @@ use Rattle.mx_json.specs.declared.value.Json.TheViews.{outs-Text}
 use Rattle.mx_event.proofs.Texts.{members_of-Object}
 use Rattle.mx_folding.specs.Visible.{SharedSince}
 use Rattle.mx_view.specs.Readings.{contents, membership_as, setting_as}
-use Rattle.mx_fold_rows.specs.Events.{alice, bob, carol, with_text, event_at, member, setting, redaction, joins_named, private_room, joined_room, long_room, left_room, shared_room, hidden_room, renamed_room, redacted_room, taken_back, three_users}
+use Rattle.mx_fold_rows.specs.Events.{alice, bob, carol, with_text, event_at, member, setting, redaction, joins_named, private_room, joined_room, long_room, left_room, shared_room, hidden_room, renamed_room, redacted_room, taken_back, three_users, banned_room, named_room, invited_room}
 use Rattle.mx_fold_rows.specs.Said.{said, Says, SaysMembership, SaysSetting, SaysNames, RoomsSay}
 
 text_there : (key text : List ℕ) → bytes_eq key key ≡ true → text_at key (with_text key text) ≡ Some text
@@ -239,4 +239,10 @@ rooms_say = record {
           ),
         ),
       );
+  banned =
+      AllByRecursion-append Says private_room (drop 6 banned_room) private_says (setting_says 7 (codes "world_readable") refl, (member_says 8 bob bob (codes "join") refl, (member_says 9 bob bob (codes "leave") refl, (other_says 10 (codes "m.room.message") None alice (codes "body") (codes "hi") refl refl refl refl refl, (member_says 11 bob alice (codes "ban") refl, tt)))));
+  named =
+      AllByRecursion-append Says private_room (drop 6 named_room) private_says (other_says 7 (codes "m.room.name") (Some []) alice (codes "name") (codes "n") refl refl refl refl refl, (other_says 8 (codes "m.room.topic") (Some []) alice (codes "name") (codes "n") refl refl refl refl refl, (other_says 9 (codes "m.room.avatar") (Some []) alice (codes "name") (codes "n") refl refl refl refl refl, (other_says 10 (codes "m.room.canonical_alias") (Some []) alice (codes "name") (codes "n") refl refl refl refl refl, (other_says 11 (codes "m.room.encryption") (Some []) alice (codes "name") (codes "n") refl refl refl refl refl, (other_says 12 (codes "m.room.topic") (Some (codes "other")) alice (codes "name") (codes "n") refl refl refl refl refl, (member_says 13 carol carol (codes "join") refl, (member_says 14 bob alice (codes "invite") refl, (other_says 15 (codes "m.room.topic") (Some []) alice (codes "name") (codes "n") refl refl refl refl refl, tt)))))))));
+  invited =
+      AllByRecursion-append Says private_room (drop 6 invited_room) private_says (setting_says 7 (codes "invited") refl, (member_says 8 carol alice (codes "invite") refl, (other_says 9 (codes "m.room.message") None alice (codes "body") (codes "hi") refl refl refl refl refl, (member_says 10 bob bob (codes "join") refl, (other_says 11 (codes "m.room.message") None alice (codes "body") (codes "hi") refl refl refl refl refl, tt)))));
 }

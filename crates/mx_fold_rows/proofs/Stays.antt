@@ -1,5 +1,5 @@
 use Rattle.std.proofs.Common.{refl}
-use Rattle.mx_fold_rows.specs.Stays.{BreakAtHidden, PageOfStay, StateAfter, NoBreakAtDropped, HasLeft, CameBack, IsInvited, LeftAlready, InvitedAlready, LeaveIncluded, LeaveLeftOut, LeftSinceToken, LeftLimited, LeftBeforeToken, LeftSender, FirstBase, KeptBase}
+use Rattle.mx_fold_rows.specs.Stays.{BreakAtHidden, PageOfStay, StateAfter, NoBreakAtDropped, HasLeft, CameBack, IsInvited, InviteShows, LeftAlready, InvitedAlready, LeaveIncluded, LeaveLeftOut, LeftSinceToken, LeftLimited, LeftBeforeToken, LeftSender, LeftFullState, StayEnds, BannedAfter, BannedBare, FirstBase, KeptBase}
 
 pub break_at_hidden : BreakAtHidden
 break_at_hidden = refl
@@ -21,6 +21,9 @@ came_back = refl
 
 pub is_invited : IsInvited
 is_invited = refl
+
+pub invite_shows : InviteShows
+invite_shows = refl
 
 pub left_already : LeftAlready
 left_already = refl
@@ -45,6 +48,18 @@ left_before_token = refl
 
 pub left_sender : LeftSender
 left_sender = refl
+
+pub left_full_state : LeftFullState
+left_full_state = refl
+
+pub stay_ends : StayEnds
+stay_ends = refl
+
+pub banned_after : BannedAfter
+banned_after = refl
+
+pub banned_bare : BannedBare
+banned_bare = refl
 
 pub first_base : FirstBase
 first_base = refl

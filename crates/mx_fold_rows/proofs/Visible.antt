@@ -1,5 +1,5 @@
 use Rattle.std.proofs.Common.{refl}
-use Rattle.mx_fold_rows.specs.Visible.{SharedSeen, SharedUnseen, JoinAfterFront, JoinedSeen, JoinedPage, WorldReads, WorldDoesnt, WorldReadsSetting, InvitedSees, BannedSees, OtherLeaves, UnsetIsShared, UnknownIsShared, MessageSetsNothing, OtherKeySetsNothing, EmptyKeySets, MessageJoinsNobody, KeyJoins}
+use Rattle.mx_fold_rows.specs.Visible.{SharedSeen, SharedUnseen, JoinAfterFront, JoinedSeen, JoinedPage, WorldReads, WorldDoesnt, WorldReadsSetting, InvitedSees, InvitedJoinsLater, InvitedStays, BannedSees, OtherLeaves, UnsetIsShared, UnknownIsShared, MessageSetsNothing, OtherKeySetsNothing, EmptyKeySets, MessageJoinsNobody, KeyJoins}
 
 pub shared_seen : SharedSeen
 shared_seen = refl
@@ -27,6 +27,12 @@ world_reads_setting = refl
 
 pub invited_sees : InvitedSees
 invited_sees = refl
+
+pub invited_joins_later : InvitedJoinsLater
+invited_joins_later = refl
+
+pub invited_stays : InvitedStays
+invited_stays = refl
 
 pub banned_sees : BannedSees
 banned_sees = refl

@@ -108,3 +108,18 @@ taken_back = private_room ++ message 7 alice ∷ message 8 alice ∷ redaction 9
 -- bob and carol join; bob's member event changes at 12
 abbrev pub three_users : List Event
 three_users = private_room ++ invites 7 bob ∷ invites 8 carol ∷ joins 9 bob ∷ joins 10 carol ∷ message 11 bob ∷ joins 12 bob ∷ message 13 bob ∷ []
+
+-- anyone reads the room; bob joins at 8, leaves at 9, and is banned at 11
+abbrev pub banned_room : List Event
+banned_room = private_room ++ setting 7 (codes "world_readable") ∷ joins 8 bob ∷ leaves 9 bob ∷ message 10 alice ∷ member 11 bob alice (codes "ban") ∷ []
+
+-- the room has a state event of each type that an invite shows, a topic under another key, and carol; bob is invited at 14, and the
+-- topic changes then
+abbrev pub named_room : List Event
+named_room = private_room ++ state_event 7 (codes "m.room.name") [] ∷ topic 8 ∷ state_event 9 (codes "m.room.avatar") []
+    ∷ state_event 10 (codes "m.room.canonical_alias") [] ∷ state_event 11 (codes "m.room.encryption") []
+    ∷ state_event 12 (codes "m.room.topic") (codes "other") ∷ joins 13 carol ∷ invites 14 bob ∷ topic 15 ∷ []
+
+-- history since the invite: carol is invited at 8 and bob joins at 10
+abbrev pub invited_room : List Event
+invited_room = private_room ++ setting 7 (codes "invited") ∷ invites 8 carol ∷ message 9 alice ∷ joins 10 bob ∷ message 11 alice ∷ []

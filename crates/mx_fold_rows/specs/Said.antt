@@ -13,7 +13,19 @@ use Rattle.mx_folding.specs.Visible.{SharedSince}
 use Rattle.mx_view.specs.Readings.{Contents, contents, membership_as, setting_as}
 use Rattle.mx_view.specs.Reads.{ReadAlike}
 use Rattle.mx_fold_rows.specs.Events.{member, setting, redaction}
-use Rattle.mx_fold_rows.specs.Events.{long_room, left_room, shared_room, hidden_room, renamed_room, redacted_room, taken_back, three_users}
+use Rattle.mx_fold_rows.specs.Events.{
+  long_room,
+  left_room,
+  shared_room,
+  hidden_room,
+  renamed_room,
+  redacted_room,
+  taken_back,
+  three_users,
+  banned_room,
+  named_room,
+  invited_room,
+}
 
 abbrev pub said_text : Event → Option (List ℕ)
 said_text e = option_map (λ (t : Txn). t.id) e.txn
@@ -52,3 +64,6 @@ pub record RoomsSay : Type 0 where
   pub redactions : AllByRecursion Says redacted_room
   pub taken : AllByRecursion Says taken_back
   pub three : AllByRecursion Says three_users
+  pub banned : AllByRecursion Says banned_room
+  pub named : AllByRecursion Says named_room
+  pub invited : AllByRecursion Says invited_room

@@ -10,9 +10,9 @@ use Rattle.mx_view.specs.Pictures.{room_at}
 use Rattle.mx_view.specs.Readings.{viewer_by}
 use Rattle.mx_view.specs.Rooms.{Sieve, room_by}
 use Rattle.mx_view.specs.Tokens.{next_token}
-use Rattle.mx_fold_rows.specs.Events.{bob, left_room, shared_room}
+use Rattle.mx_fold_rows.specs.Events.{banned_room, bob, left_room, named_room, shared_room}
 use Rattle.mx_fold_rows.specs.Said.{said}
-use Rattle.mx_fold_rows.specs.Heard.{everything, lazily, token, asks, asks_state_after, nobody, Silent, Asked, Gone, Change, Whole, places, says, page}
+use Rattle.mx_fold_rows.specs.Heard.{everything, lazily, token, asks, asks_full_state, asks_state_after, nobody, Silent, Asked, Gone, Change, Whole, places, says, page}
 
 -- The topic that was set while bob was away breaks the timeline; the room isn't new to him, as he was joined at his token.
 abbrev pub BreakAtHidden : Type 0
@@ -48,6 +48,10 @@ CameBack = says bob left_room everything (asks 10) nobody (Some (token 13 8)) (t
 abbrev pub IsInvited : Type 0
 IsInvited = says bob shared_room everything (asks 10) nobody None (token 8 8) ≡ Asked (1 ∷ 4 ∷ 8 ∷ [])
 
+-- an invite shows the state before it of the types that it shows, under the empty key, and itself, whatever the filter
+abbrev pub InviteShows : Type 0
+InviteShows = says bob named_room without_topics (asks 10) nobody None (token 15 15) ≡ Asked (1 ∷ 4 ∷ 7 ∷ 8 ∷ 9 ∷ 10 ∷ 11 ∷ 14 ∷ [])
+
 -- one who left before the token isn't told of again, nor is one who was invited before it
 abbrev pub LeftAlready : Type 0
 LeftAlready = says bob left_room everything (asks 10) nobody (Some (token 12 8)) (token 13 8) ≡ Silent
@@ -65,13 +69,13 @@ LeaveLeftOut = says bob left_room everything (asks 10) nobody None (token 13 13)
 abbrev pub of_part : Part Event → Bool × ℕ × List ℕ × List ℕ
 of_part p = (p.limited, p.cut, places p.state, places p.sent)
 
-abbrev pub leaving_by : Sieve → Sync → Option SyncToken → SyncToken → Bool × ℕ × List ℕ × List ℕ
-leaving_by f ask since j =
-    let es : List Event = room_at left_room j.e in
+abbrev pub leaving_in : List Event → Sieve → Sync → Option SyncToken → SyncToken → Bool × ℕ × List ℕ × List ℕ
+leaving_in all f ask since j =
+    let es : List Event = room_at all j.e in
     of_part (left_of (room_by said f bob es) (viewer_by said bob) es ask (next_token since j).b since j.e)
 
 abbrev pub leaving : Sync → Option SyncToken → SyncToken → Bool × ℕ × List ℕ × List ℕ
-leaving = leaving_by everything
+leaving = leaving_in left_room everything
 
 -- a left room's window ends with the stay; to one who had left before the token nothing is sent, nor to one with no stay
 abbrev pub LeftSinceToken : Type 0
@@ -85,7 +89,22 @@ LeftBeforeToken = leaving (asks 10) (Some (token 12 8)) (token 13 8) ≡ (false,
 
 -- without `since` a left room is new; with lazy members of its members those of the senders and one's own
 abbrev pub LeftSender : Type 0
-LeftSender = leaving_by lazily (asks 1) None (token 13 13) ≡ (true, 10, 1 ∷ 3 ∷ 4 ∷ 6 ∷ 7 ∷ 8 ∷ 9 ∷ [], 11 ∷ [])
+LeftSender = leaving_in left_room lazily (asks 1) None (token 13 13) ≡ (true, 10, 1 ∷ 3 ∷ 4 ∷ 6 ∷ 7 ∷ 8 ∷ 9 ∷ [], 11 ∷ [])
+
+-- with full_state the state is whole, and the timeline the same
+abbrev pub LeftFullState : Type 0
+LeftFullState = leaving (asks_full_state 1) (Some (token 8 8)) (token 13 8) ≡ (true, 10, 1 ∷ 2 ∷ 3 ∷ 4 ∷ 6 ∷ 7 ∷ 8 ∷ 9 ∷ [], 11 ∷ [])
+
+-- a stay ends with the first leaving: one who is banned then sees nothing after it, though anyone reads the room
+abbrev pub StayEnds : Type 0
+StayEnds = leaving_in banned_room everything (asks 10) (Some (token 8 8)) (token 11 8) ≡ (false, 8, [], 9 ∷ [])
+
+-- to one who had left before the token the ban is told, without a timeline
+abbrev pub BannedAfter : Type 0
+BannedAfter = says bob banned_room everything (asks 10) nobody (Some (token 10 8)) (token 11 8) ≡ Gone
+
+abbrev pub BannedBare : Type 0
+BannedBare = leaving_in banned_room everything (asks_full_state 10) (Some (token 10 8)) (token 11 8) ≡ (false, 11, [], [])
 
 -- a reply's token keeps the position at which its chain began
 abbrev pub FirstBase : Type 0

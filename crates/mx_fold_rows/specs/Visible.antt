@@ -8,7 +8,7 @@ use Rattle.mx_view.specs.Pictures.{room_at}
 use Rattle.mx_view.specs.Readings.{viewer_by}
 use Rattle.mx_fold_rows.specs.Said.{said}
 use Rattle.mx_fold_rows.specs.Events.{alice, bob, carol, event_at, state_event, message, joins, member, invites}
-use Rattle.mx_fold_rows.specs.Events.{setting, private_room, shared_room, hidden_room}
+use Rattle.mx_fold_rows.specs.Events.{setting, private_room, shared_room, hidden_room, invited_room}
 use Rattle.mx_fold_rows.specs.Heard.{everything, token, asks, nobody, Whole, places, says, page}
 
 -- the positions of what a user sees at a front, of the events up to it
@@ -49,6 +49,14 @@ WorldReadsSetting =
 -- history since the invite: one's own invite is seen, and what follows, without a join
 abbrev pub InvitedSees : Type 0
 InvitedSees = seen_by bob (private_room ++ setting 7 (codes "invited") ∷ message 8 alice ∷ invites 9 bob ∷ message 10 alice ∷ []) 10 ≡ 9 ∷ 10 ∷ []
+
+-- one who joins later sees nothing of it from before his join, as he wasn't invited, but for the setting, by the one before it; who is
+-- invited and doesn't join sees what follows
+abbrev pub InvitedJoinsLater : Type 0
+InvitedJoinsLater = seen_by bob invited_room 11 ≡ 1 ∷ 2 ∷ 3 ∷ 4 ∷ 5 ∷ 6 ∷ 7 ∷ 10 ∷ 11 ∷ []
+
+abbrev pub InvitedStays : Type 0
+InvitedStays = seen_by carol invited_room 11 ≡ 8 ∷ 9 ∷ 10 ∷ 11 ∷ []
 
 -- one's own ban is seen by the state before it, and nothing after
 abbrev pub BannedSees : Type 0

@@ -4,8 +4,8 @@ ghost use Rattle.mx_fold_rows.specs.Said.{RoomsSay, SaysMembership, SaysNames, S
 ghost use Rattle.mx_fold_rows.specs.Account.{FirstAccount, LaterAccount, NoAccount, NoType};
 ghost use Rattle.mx_fold_rows.specs.Exchanged.{FirstIsTold, NextIsTold, Begins, TakesPage, PassesPages, PassesReplies, GoesOnFrom, BeginsAnew, HasNotBegun};
 ghost use Rattle.mx_fold_rows.specs.Limits.{LastTen, RestOnePage, RestJustFits, PageOfThree, NoTimeline, LaterState, FullState, NothingNew, NeverThere};
-ghost use Rattle.mx_fold_rows.specs.Stays.{BreakAtHidden, PageOfStay, StateAfter, NoBreakAtDropped, HasLeft, CameBack, IsInvited, LeftAlready, InvitedAlready, LeaveIncluded, LeaveLeftOut, LeftSinceToken, LeftLimited, LeftBeforeToken, LeftSender, FirstBase, KeptBase};
-ghost use Rattle.mx_fold_rows.specs.Visible.{SharedSeen, SharedUnseen, JoinAfterFront, JoinedSeen, JoinedPage, WorldReads, WorldDoesnt, WorldReadsSetting, InvitedSees, BannedSees, OtherLeaves, UnsetIsShared, UnknownIsShared, MessageSetsNothing, OtherKeySetsNothing, EmptyKeySets, MessageJoinsNobody, KeyJoins};
+ghost use Rattle.mx_fold_rows.specs.Stays.{BreakAtHidden, PageOfStay, StateAfter, NoBreakAtDropped, HasLeft, CameBack, IsInvited, InviteShows, LeftAlready, InvitedAlready, LeaveIncluded, LeaveLeftOut, LeftSinceToken, LeftLimited, LeftBeforeToken, LeftSender, LeftFullState, StayEnds, BannedAfter, BannedBare, FirstBase, KeptBase};
+ghost use Rattle.mx_fold_rows.specs.Visible.{SharedSeen, SharedUnseen, JoinAfterFront, JoinedSeen, JoinedPage, WorldReads, WorldDoesnt, WorldReadsSetting, InvitedSees, InvitedJoinsLater, InvitedStays, BannedSees, OtherLeaves, UnsetIsShared, UnknownIsShared, MessageSetsNothing, OtherKeySetsNothing, EmptyKeySets, MessageJoinsNobody, KeyJoins};
 ghost use Rattle.mx_fold_rows.specs.Redacted.{RedactionSent, RedactionHidden, SentRedacted, SentBefore, CopyRedacted, CopyStays};
 ghost use Rattle.mx_fold_rows.specs.Lazy.{FirstMembers, FirstSender, FirstHero, SentOnceMore, HeroesSent, MemberOmitted, RedundantSent, SentByBase, MembersAfter, PageMembers};
 ghost use Rattle.mx_fold_rows.specs.Anywhere.{BroughtBack, FallsShort, FollowsSync, GoesAcross, GoesBack, ReachesIt, StaysRedacted};
@@ -35,7 +35,7 @@ pub fn limits_compute()
 {}
 
 /// A user who leaves and comes back, one who is invited, and what a left room has.
-#[tactic(auto, using(crate::proofs::Stays::break_at_hidden, crate::proofs::Stays::page_of_stay, crate::proofs::Stays::state_after, crate::proofs::Stays::no_break_at_dropped, crate::proofs::Stays::has_left, crate::proofs::Stays::came_back, crate::proofs::Stays::is_invited, crate::proofs::Stays::left_already, crate::proofs::Stays::invited_already, crate::proofs::Stays::leave_included, crate::proofs::Stays::leave_left_out, crate::proofs::Stays::left_since_token, crate::proofs::Stays::left_limited, crate::proofs::Stays::left_before_token, crate::proofs::Stays::left_sender, crate::proofs::Stays::first_base, crate::proofs::Stays::kept_base))]
+#[tactic(auto, using(crate::proofs::Stays::break_at_hidden, crate::proofs::Stays::page_of_stay, crate::proofs::Stays::state_after, crate::proofs::Stays::no_break_at_dropped, crate::proofs::Stays::has_left, crate::proofs::Stays::came_back, crate::proofs::Stays::is_invited, crate::proofs::Stays::invite_shows, crate::proofs::Stays::left_already, crate::proofs::Stays::invited_already, crate::proofs::Stays::leave_included, crate::proofs::Stays::leave_left_out, crate::proofs::Stays::left_since_token, crate::proofs::Stays::left_limited, crate::proofs::Stays::left_before_token, crate::proofs::Stays::left_sender, crate::proofs::Stays::left_full_state, crate::proofs::Stays::stay_ends, crate::proofs::Stays::banned_after, crate::proofs::Stays::banned_bare, crate::proofs::Stays::first_base, crate::proofs::Stays::kept_base))]
 pub fn stays_compute()
     ensures break_at_hidden { BreakAtHidden }
     ensures page_of_stay { PageOfStay }
@@ -44,6 +44,7 @@ pub fn stays_compute()
     ensures has_left { HasLeft }
     ensures came_back { CameBack }
     ensures is_invited { IsInvited }
+    ensures invite_shows { InviteShows }
     ensures left_already { LeftAlready }
     ensures invited_already { InvitedAlready }
     ensures leave_included { LeaveIncluded }
@@ -52,12 +53,16 @@ pub fn stays_compute()
     ensures left_limited { LeftLimited }
     ensures left_before_token { LeftBeforeToken }
     ensures left_sender { LeftSender }
+    ensures left_full_state { LeftFullState }
+    ensures stay_ends { StayEnds }
+    ensures banned_after { BannedAfter }
+    ensures banned_bare { BannedBare }
     ensures first_base { FirstBase }
     ensures kept_base { KeptBase }
 {}
 
 /// What a user may see, and which events set what it is judged by.
-#[tactic(auto, using(crate::proofs::Visible::shared_seen, crate::proofs::Visible::shared_unseen, crate::proofs::Visible::join_after_front, crate::proofs::Visible::joined_seen, crate::proofs::Visible::joined_page, crate::proofs::Visible::world_reads, crate::proofs::Visible::world_doesnt, crate::proofs::Visible::world_reads_setting, crate::proofs::Visible::invited_sees, crate::proofs::Visible::banned_sees, crate::proofs::Visible::other_leaves, crate::proofs::Visible::unset_is_shared, crate::proofs::Visible::unknown_is_shared, crate::proofs::Visible::message_sets_nothing, crate::proofs::Visible::other_key_sets_nothing, crate::proofs::Visible::empty_key_sets, crate::proofs::Visible::message_joins_nobody, crate::proofs::Visible::key_joins))]
+#[tactic(auto, using(crate::proofs::Visible::shared_seen, crate::proofs::Visible::shared_unseen, crate::proofs::Visible::join_after_front, crate::proofs::Visible::joined_seen, crate::proofs::Visible::joined_page, crate::proofs::Visible::world_reads, crate::proofs::Visible::world_doesnt, crate::proofs::Visible::world_reads_setting, crate::proofs::Visible::invited_sees, crate::proofs::Visible::invited_joins_later, crate::proofs::Visible::invited_stays, crate::proofs::Visible::banned_sees, crate::proofs::Visible::other_leaves, crate::proofs::Visible::unset_is_shared, crate::proofs::Visible::unknown_is_shared, crate::proofs::Visible::message_sets_nothing, crate::proofs::Visible::other_key_sets_nothing, crate::proofs::Visible::empty_key_sets, crate::proofs::Visible::message_joins_nobody, crate::proofs::Visible::key_joins))]
 pub fn visibility_computes()
     ensures shared_seen { SharedSeen }
     ensures shared_unseen { SharedUnseen }
@@ -68,6 +73,8 @@ pub fn visibility_computes()
     ensures world_doesnt { WorldDoesnt }
     ensures world_reads_setting { WorldReadsSetting }
     ensures invited_sees { InvitedSees }
+    ensures invited_joins_later { InvitedJoinsLater }
+    ensures invited_stays { InvitedStays }
     ensures banned_sees { BannedSees }
     ensures other_leaves { OtherLeaves }
     ensures unset_is_shared { UnsetIsShared }
