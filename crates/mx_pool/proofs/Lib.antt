@@ -1,4 +1,7 @@
 pub mod Asked
+pub mod Counting
 pub mod Crosses
+pub mod Ending
+pub mod Gathered
 pub mod Outcomes
 pub mod Runs

@@ -15,7 +15,8 @@ use Rattle.mx_pool.specs.declared.status.Status.{Status}
 use Rattle.mx_pool.specs.declared.status.Status.TheVariants as status
 use Rattle.mx_pool.specs.Lines.{Tells, line_of, shown}
 use Rattle.mx_pool.specs.Serving.{IsServerStatus}
-use Rattle.mx_pool.specs.Runs.{Change, HasRisen, HasUsers, IsBroken, IsCause, IsPrinted, IsRan, IsServerEnd, IsShort, IsUsage, Prints, RanMode, RanPipe, ServesUsers, TellsAt, TellsPipe, TellsServer, World, status_of, users_limit}
+use Rattle.mx_pool.specs.Connections.{Change}
+use Rattle.mx_pool.specs.Runs.{HasRisen, HasUsers, IsBroken, IsCause, IsPrinted, IsRan, IsServerEnd, IsShort, IsUsage, Prints, RanMode, RanPipe, ServesUsers, TellsAt, TellsPipe, TellsServer, World, status_of, users_limit}
 use Rattle.mx_words.specs.Words.{Help, Meaning, Refused, Said, Says, Version, Wrong}
 use Rattle.mx_serve.proofs.Served.{some-more}
 

@@ -1,15 +1,22 @@
--- One connection for the users of a file.
-use Rattle.std.proofs.Common.{◌≡◌, ℕ, List, [], Option, subst}
+-- One connection for the users of a file, and a server for them.
+use Rattle.std.proofs.Common.{◌≡◌, ◌⊎◌, ℕ, List, [], Option, Some, None, inl, inr, refl, sym, subst, ◌∙◌}
+use Rattle.std.proofs.Math.Logic.{∥∥₁_map}
 use Rattle.mx_http.specs.declared.call.Call.{Call}
 use Rattle.mx_ids.specs.declared.users.Users.{Users}
 use Rattle.mx_fold.specs.Lists.{AreLawful, Histories}
 use Rattle.mx_engine.specs.Answers.{Stops, counts_of, nothing}
 use Rattle.mx_aims.specs.Asked.{Site}
 use Rattle.mx_serve.specs.Rooms.{AreValid}
-use Rattle.mx_pool.specs.Runs.{Change, ServesOne, run_stops, site_for, status_of}
+use Rattle.mx_pool.specs.Connections.{Change, Ends, Service, change}
+use Rattle.mx_pool.specs.Runs.{Arrivals, HasUsers, IsCause, IsIdle, ServesBy, ServesFile, ServesFor, ServesOne, ServesRun, arrivals, run_stops, server_status, service_for, site_for, status_of}
+use Rattle.mx_pool.specs.Serving.{HasServed, IsServerStatus}
+use Rattle.mx_pool.specs.declared.serving.Served.{Served}
+use Rattle.mx_pool.specs.declared.serving.Served.TheVariants as served
 use Rattle.mx_serve.specs.Sessions.{InputFaults, IsServed, OutputFaults, moment}
 use Rattle.mx_serve.specs.declared.ended.Ended.{Ended}
 use Rattle.mx_pool.specs.declared.status.Status.{Status}
+use Rattle.mx_pool.specs.declared.status.Status.TheVariants as status
+use Rattle.mx_words.specs.Words.{Help, Meaning, Refused, Said, Says, Version, Wrong}
 use Rattle.mx_serve.proofs.Chaining.{connections_agree}
 
 module _ (users : Users) (workers limit : ℕ) (left written : Change (Option (List ℕ))) (reads writes reading : Change ℕ) (ended : Ended) (seen : Histories) where
@@ -34,3 +41,85 @@ module _ (users : Users) (workers limit : ℕ) (left written : Change (Option (L
         valid = valid;
         headline = connections_agree (site_for users workers) run_stops seen (counts_of nothing) h.0 ended.marks h.1.turns lawful;
       }
+
+-- ---- a server
+
+-- what it is, by what its engine is made for
+pub service_is : (site : Site) (stops : Stops) (n : ℕ) (users : Users) (workers limit : ℕ) → site ≡ site_for users workers → stops ≡ run_stops → n ≡ limit
+    → ◌≡◌ {A = Service} (record { site = site; stops = stops; limit = n }) (service_for users workers limit)
+service_is site stops n users workers limit a b c = λ i. record { site = a i; stops = b i; limit = c i }
+
+-- a server whose status is `Listener` had a fault of the listener or of the spawner
+pub server_rose : (A B : Type 0) (how : Served) (s : Status) → s ≡ server_status how → (how ≡ served.ListenFailed → A) → (how ≡ served.StartRefused → B) → s ≡ status.Listener → A ⊎ B
+server_rose A B how s is a b listener = go how a b (sym is ∙ listener)
+  where
+    go : (how : Served) → (how ≡ served.ListenFailed → A) → (how ≡ served.StartRefused → B) → server_status how ≡ status.Listener → A ⊎ B
+    go served.Closed a b e = absurd cc
+    go served.ListenFailed a b e = inl (a refl)
+    go served.StartRefused a b e = inr (b refl)
+    go served.Memory a b e = absurd cc
+
+-- the status of a server is one of a server's
+pub server_is : (how : Served) (s : Status) → s ≡ server_status how → IsServerStatus s
+server_is how s is = subst IsServerStatus (sym is) (go how)
+  where
+    go : (how : Served) → IsServerStatus (server_status how)
+    go served.Closed = tt
+    go served.ListenFailed = tt
+    go served.StartRefused = tt
+    go served.Memory = tt
+
+-- a server that is done was closed
+pub server_closed : (A : Type 0) (how : Served) (s : Status) → s ≡ server_status how → (how ≡ served.Closed → A) → s ≡ status.Done → A
+server_closed A how s is a done = go how a (sym is ∙ done)
+  where
+    go : (how : Served) → (how ≡ served.Closed → A) → server_status how ≡ status.Done → A
+    go served.Closed a e = a refl
+    go served.ListenFailed a e = absurd cc
+    go served.StartRefused a e = absurd cc
+    go served.Memory a e = absurd cc
+
+-- a status with which no server is done
+pub cause_done : (told : Option (List ℕ)) (faults : Change ℕ) (s : Status) → IsCause told faults s → s ≡ status.Done → ⊥
+cause_done told faults s cause is = subst (IsCause told faults) is cause
+
+module _ {L P : Type 0} (left : L → Option (List P)) (ends : P → Ends) where
+  pub served_for : (service : Service) (users : Users) (workers limit : ℕ) → service ≡ service_for users workers limit → (came : Arrivals P) (how : Served) (s : Status) (seen : Histories) → s ≡ server_status how
+      → ∥ HasServed service left ends came.pairs came.starts how seen ∥₁ → ServesFor users workers limit left ends came s
+  served_for service users workers limit is came how s seen status h =
+      inr (∥∥₁_map h (λ x. (how, status, seen, subst (λ (v : Service). HasServed v left ends came.pairs came.starts how seen) is x)))
+
+  pub none_for : (users : Users) (workers limit : ℕ) (pairs after : Option (List P)) (starts later : ℕ) (s : Status) → after ≡ pairs → later ≡ starts → (s ≡ status.Done → ⊥)
+      → ServesFor users workers limit left ends (arrivals (change pairs after) (change starts later)) s
+  none_for users workers limit pairs after starts later s a b c = inl (record { pairs_are = a; starts_are = b }, c)
+
+  -- once an address is bound, which takes no pair
+  pub bound_for : (users : Users) (workers limit : ℕ) (pairs bound after : Option (List P)) (starts : Change ℕ) (s : Status) → bound ≡ pairs
+      → ServesFor users workers limit left ends (arrivals (change bound after) starts) s → ServesFor users workers limit left ends (arrivals (change pairs after) starts) s
+  bound_for users workers limit pairs bound after starts s is h = subst (λ (l : Option (List P)). ServesFor users workers limit left ends (arrivals (change l after) starts) s) is h
+
+  -- the users are those of the file
+  pub file_for : (users : Users) (said : Said) (file : List ℕ → Option (List ℕ)) (came : Arrivals P) (s : Status) → HasUsers (file said.users) users
+      → ServesFor users said.workers said.requests left ends came s → ServesFile said file left ends came s
+  file_for users said file came s has (inl none) = inl none
+  file_for users said file came s has (inr h) = inr (users, has, h)
+
+  -- at the address of the words
+  pub by_address : (listen : Option (List ℕ)) (address : List ℕ) (said : Said) (file : List ℕ → Option (List ℕ)) (came : Arrivals P) (s t : Status) → Some address ≡ listen → t ≡ s
+      → ServesFile said file left ends came s → ServesBy listen said file left ends came t
+  by_address listen address said file came s t at is h =
+      subst (λ l. ServesBy l said file left ends came t) at (subst (λ u. ServesFile said file left ends came u) (sym is) h)
+
+  by_none : (listen : Option (List ℕ)) (said : Said) (file : List ℕ → Option (List ℕ)) (came : Arrivals P) (s : Status) → IsIdle came → (s ≡ status.Done → ⊥) → ServesBy listen said file left ends came s
+  by_none None said file came s idle other = idle
+  by_none (Some address) said file came s idle other = inl (idle, other)
+
+  -- nothing is served where no run is asked, or there is no memory to read the words
+  pub run_none : (m : Meaning) (file : List ℕ → Option (List ℕ)) (came : Arrivals P) (s : Status) → IsIdle came → ((s ≡ status.Done → ⊥) ⊎ ((m ≡ Help) ⊎ (m ≡ Version))) → ServesRun m file left ends came s
+  run_none (Says said) file came s idle (inl other) = by_none said.listen said file came s idle other
+  run_none (Says said) file came s idle (inr (inl e)) = absurd cc
+  run_none (Says said) file came s idle (inr (inr e)) = absurd cc
+  run_none Help file came s idle other = idle
+  run_none Version file came s idle other = idle
+  run_none Refused file came s idle other = idle
+  run_none (Wrong why) file came s idle other = idle

@@ -1,3 +1,4 @@
+pub mod Connections
 pub mod Lines
 pub mod Runs
 pub mod Serving

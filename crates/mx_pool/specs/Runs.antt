@@ -13,8 +13,9 @@ use Rattle.mx_engine.specs.declared.held.EnginePass.{EnginePass}
 use Rattle.mx_serve.specs.declared.ended.End.{End}
 use Rattle.mx_serve.specs.declared.ended.End.TheVariants as end
 use Rattle.mx_serve.specs.declared.ended.Ended.{Ended}
+use Rattle.mx_pool.specs.Connections.{Change, Ends, Service}
 use Rattle.mx_pool.specs.Lines.{Tells, TellsTwo, line_of, listening_line, shown}
-use Rattle.mx_pool.specs.Serving.{HasNoneLeft}
+use Rattle.mx_pool.specs.Serving.{HasNoneLeft, HasServed}
 use Rattle.mx_words.specs.Words.{Help, Meaning, Refused, Said, Says, Version, Wrong}
 use Rattle.mx_pool.specs.declared.serving.Served.{Served}
 use Rattle.mx_pool.specs.declared.serving.Served.TheVariants as served
@@ -27,14 +28,6 @@ use Rattle.mx_serve.specs.Sessions.{AppendsPart, InputFaults, IsServed, OutputFa
 -- a users file has at most so many bytes
 abbrev pub users_limit : ℕ
 users_limit = 1048576
-
--- a value before a run and after it
-pub record Change (A : Type 0) : Type 0 where
-  pub before : A
-  pub after : A
-
-abbrev pub change : {A : Type 0} → A → A → Change A
-change before after = record { before = before; after = after }
 
 -- what a run is given tells: the bytes of the files, the bytes left of the input and those written to the output, and
 -- the counts of faults of the three; and the clock's last reading
@@ -182,6 +175,52 @@ ServesAt (Some address) left = HasNoneLeft left
 abbrev pub ServesAll : {P : Type 0} → Meaning → Option (List P) → Type 0
 ServesAll (Says said) left = ServesAt said.listen left
 ServesAll other left = ⊤
+
+-- what a server of so many writers and requests is, for these users
+abbrev pub service_for : Users → ℕ → ℕ → Service
+service_for users workers limit = record { site = site_for users workers; stops = run_stops; limit = limit }
+
+-- what a run in mode `serve` is given tells: the pairs of the listener that are left, and the number of the spawner's starts
+pub record Arrivals (P : Type 0) : Type 0 where
+  pub pairs : Change (Option (List P))
+  pub starts : Change ℕ
+
+abbrev pub arrivals : {P : Type 0} → Change (Option (List P)) → Change ℕ → Arrivals P
+arrivals pairs starts = record { pairs = pairs; starts = starts }
+
+-- no connection was begun
+pub record IsIdle {P : Type 0} (came : Arrivals P) : Type 0 where
+  pub pairs_are : came.pairs.after ≡ came.pairs.before
+  pub starts_are : came.starts.after ≡ came.starts.before
+
+-- nor is the run done
+abbrev pub HasNone : {P : Type 0} → Arrivals P → Status → Type 0
+HasNone came s = IsIdle came × (s ≡ status.Done → ⊥)
+
+-- a server of so many writers and requests served these users
+abbrev pub HasServedFor : {L P : Type 0} → Users → ℕ → ℕ → (L → Option (List P)) → (P → Ends) → Arrivals P → Status → Type 0
+HasServedFor users workers limit left ends came s = (how : Served) × (s ≡ server_status how) × (seen : Histories) × HasServed (service_for users workers limit) left ends came.pairs came.starts how seen
+
+-- no connection was begun, or a server served these users
+abbrev pub ServesFor : {L P : Type 0} → Users → ℕ → ℕ → (L → Option (List P)) → (P → Ends) → Arrivals P → Status → Type 0
+ServesFor users workers limit left ends came s = HasNone came s ⊎ ∥ HasServedFor users workers limit left ends came s ∥₁
+
+-- the same for the users of the file
+abbrev pub ServesFile : {L P : Type 0} → Said → (List ℕ → Option (List ℕ)) → (L → Option (List P)) → (P → Ends) → Arrivals P → Status → Type 0
+ServesFile said file left ends came s = HasNone came s ⊎ ((users : Users) × HasUsers (file said.users) users × ∥ HasServedFor users said.workers said.requests left ends came s ∥₁)
+
+-- in mode `serve`; in mode `pipe` no connection is begun
+abbrev pub ServesBy : {L P : Type 0} → Option (List ℕ) → Said → (List ℕ → Option (List ℕ)) → (L → Option (List P)) → (P → Ends) → Arrivals P → Status → Type 0
+ServesBy None said file left ends came s = IsIdle came
+ServesBy (Some address) said file left ends came s = ServesFile said file left ends came s
+
+-- what a run served in mode `serve`, by its words
+abbrev pub ServesRun : {L P : Type 0} → Meaning → (List ℕ → Option (List ℕ)) → (L → Option (List P)) → (P → Ends) → Arrivals P → Status → Type 0
+ServesRun (Says said) file left ends came s = ServesBy said.listen said file left ends came s
+ServesRun Help file left ends came s = IsIdle came
+ServesRun Version file left ends came s = IsIdle came
+ServesRun Refused file left ends came s = IsIdle came
+ServesRun (Wrong why) file left ends came s = IsIdle came
 
 -- the number of a status
 abbrev pub number_of : Status → ℕ

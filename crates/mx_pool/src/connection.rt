@@ -1,36 +1,45 @@
 //! One connection of a server, as a job.
-use crate::seated::Seated;
-use crate::seats::Seats;
+ghost use Rattle.mx_pool.specs.Connections.{ends};
+
+use crate::pool::Pool;
+use crate::seated::{Seating, Taken};
 use mx_outside::{Clock, Job, Sink, Source};
-use mx_serve::serve_connection;
 use mx_writers::Gate;
 use std::alloc::Global;
 use std::rt;
 use std::sync::{Arc, Wait};
 
-/// A connection with the seat that it has, and the seats among which it goes in the end.
-#[derive(Drop)]
-pub struct Connection<G: Gate + Drop, S, K, C, R> {
-    pub(crate) seats: Arc<Seats<G>>,
-    pub(crate) seat: Seated<G>,
+/// A connection with the seat that it has. Where it is dropped it isn't begun, and its seat goes back.
+pub struct Connection<
+    N: Seating,
+    G: Gate + Drop,
+    S: Source + Drop,
+    K: Sink + Drop,
+    C: Drop,
+    R: Wait + Drop,
+> {
+    pub(crate) pool: Arc<Pool<N, G>>,
+    pub(crate) seat: Taken<N>,
     pub(crate) input: S,
     pub(crate) output: K,
     pub(crate) clock: C,
     pub(crate) alloc: Global,
     pub(crate) rt: R,
+    ghost kind: { ∥ N.is_kind (ends (S.left input) (K.written output) (S.faults input) (K.faults output)) ∥₁ },
 }
 
 impl<
+    N: Seating,
     G: Gate + Drop,
     S: Source + Drop,
     K: Sink + Drop,
     C: Clock + Drop,
     R: Wait + rt::Clock + Drop,
-> Job for Connection<G, S, K, C, R> {
-    /// Serves the connection up to its end, and gives its seat back. No clause tells how it ended.
+> Job for Connection<N, G, S, K, C, R> {
+    /// Serves the connection up to its end, and gives its seat back.
     fn run(self) {
         let Connection {
-            seats,
+            pool,
             seat,
             mut input,
             mut output,
@@ -38,21 +47,25 @@ impl<
             alloc,
             rt,
         } = self;
-        let seat = served(&rt, alloc, seat, &mut input, &mut output, &mut clock);
-        seats.give(&rt, seat);
+        let server = pool.server();
+        let seat = seat.serve(&rt, alloc, server, &mut input, &mut output, &mut clock);
+        pool.give(&rt, seat);
     }
 }
 
-/// The seat after a connection that it served.
-fn served<G: Gate + Drop, R: Wait + rt::Clock, S: Source, K: Sink, C: Clock>(
-    rt: &R,
-    alloc: Global,
-    seat: Seated<G>,
-    input: &mut S,
-    output: &mut K,
-    clock: &mut C,
-) -> Seated<G> {
-    let Seated { server, mut pass } = seat;
-    let _ended = serve_connection(rt, alloc, &server, &mut pass, input, output, clock);
-    Seated::new(server, pass)
+impl<N: Seating, G: Gate + Drop, S: Source + Drop, K: Sink + Drop, C: Drop, R: Wait + Drop> Drop
+    for Connection<N, G, S, K, C, R> {
+    /// Gives the seat back.
+    fn drop(self) {
+        let Connection {
+            pool,
+            seat,
+            input: _,
+            output: _,
+            clock: _,
+            alloc: _,
+            rt,
+        } = self;
+        pool.leave(&rt, seat);
+    }
 }

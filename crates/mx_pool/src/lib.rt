@@ -3,29 +3,25 @@
 //! The call is `run`. It reads the words and the users file, and serves on an engine that has no store. In mode
 //! `pipe` what a run did is what `serve_connection` of `mx_serve` promises for the users of the file, with the
 //! headline in its clause. Each [`Status`] has its cause: `Usage` comes exactly where the words aren't of their form,
-//! and `Outside` and `Listener` only where a count of faults rose. In mode `serve` the contract says how a server
-//! ends; what a connection is answered is said by `serve_connection`.
+//! and `Outside` and `Listener` only where a count of faults rose. In mode `serve` what a run did is what `serve` promises.
 //!
-//! `serve` serves the connections of a listener, each by a job on one of the [`Seats`], of which each has a pass of
-//! one engine.
+//! `serve` serves the connections of a listener, each by a job on one of the seats of a `Pool`, of which each has a pass of
+//! the server's engine. Once it has ended each job that was started has served a connection as `serve_connection` promises, and the
+//! headline holds over all of them.
 //!
-//! Begin with `session.rt` and `specs/Runs.antt`, then `serving.rt` and `seats.rt`.
+//! Begin with `session.rt` and `specs/Runs.antt`, then `serving.rt`, `seated.rt` and `specs/Connections.antt`.
 #![tactic(auto)]
 
 mod connection;
-mod laws;
+mod gathering;
+mod pool;
 mod seated;
-mod seats;
 mod serving;
 mod session;
 mod site;
 mod status;
 mod telling;
 
-pub use connection::Connection;
-pub use laws::{connections_go_to_threads, seats_go_to_threads};
-pub use seated::Seated;
-pub use seats::Seats;
 pub use serving::{Served, serve};
 pub use session::{Ran, run};
 pub use status::Status;

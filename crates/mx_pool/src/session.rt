@@ -2,12 +2,13 @@
 ghost use Rattle.std.specs.Prelude.{◌≡◌, ◌⊎◌, ◌≤◌, None, Some, IfErr, IfOk, MatchResult, map, string_bytes};
 ghost use Rattle.mx_outside.specs.Causes.{Rose};
 ghost use Rattle.mx_pool.specs.Lines.{Tells, line_of, shown};
-ghost use Rattle.mx_pool.specs.Runs.{HasUsers, IsCause, IsRan, IsServerEnd, IsUsage, Prints, RanBy, RanPipe, ServesAll, ServesAt, TellsAt, TellsPipe, TellsRun, TellsServer, change};
+ghost use Rattle.mx_pool.specs.Connections.{change, ends_by};
+ghost use Rattle.mx_pool.specs.Runs.{HasUsers, IsCause, IsRan, IsServerEnd, IsUsage, Prints, RanBy, RanPipe, ServesAll, ServesAt, ServesBy, ServesFile, ServesFor, ServesRun, TellsAt, TellsPipe, TellsRun, TellsServer, arrivals};
 ghost use Rattle.mx_pool.specs.Serving.{HasNoneLeft, IsServerStatus};
 ghost use Rattle.mx_words.specs.Words.{asked_of, said_by};
 
 use crate::serving::serve;
-use crate::site::{seats_for, serve_users};
+use crate::site::{serve_users, server_for};
 use crate::status::{Status, server_status};
 use crate::telling::{tell, tell_about, tell_address};
 use mx_engine::EnginePass;
@@ -44,7 +45,8 @@ pub struct Ran {
 ///
 /// `Usage` comes exactly where the words aren't of their form; `UsersFile` where the file breaks its form or has
 /// more than 1,048,576 bytes; `Outside` only where a count of faults of `files`, `input` or `output` rose; `Listener` only where that
-/// of `listener` or of `spawner` rose. In mode `serve` `Done` comes only where the listener, where it tells its pairs, has none left.
+/// of `listener` or of `spawner` rose. In mode `serve` `Done` comes only where the listener, where it tells its pairs, has none left. Then all
+/// connections that were begun were served, as `serve` promises, for the users of the file; at another status that, or none was begun.
 /// `connection` is none in mode `serve` and for the help and the version, and else only for `Usage` and `UsersFile`, for a fault of
 /// `files`, and for want of memory: then nothing was taken from `input`, and nothing but the help or the version was written to `output`.
 #[tactic(auto, using(crate::proofs::Outcomes::ran_usage, crate::proofs::Outcomes::ran_outside))]
@@ -84,6 +86,8 @@ where
     ensures outside { result.status ≡ Status.Outside → Rose (F.faults files.old) (F.faults files.new) ⊎ (Rose (S.faults input.old) (S.faults input.new) ⊎ Rose (K.faults output.old) (K.faults output.new)) }
     ensures closed { result.status ≡ Status.Done → ServesAll (asked_of (map string_bytes words.now)) (L.left listener.new) }
     ensures listener { result.status ≡ Status.Listener → Rose (L.faults listener.old) (L.faults listener.new) ⊎ Rose spawner.old.plan.faults spawner.new.plan.faults }
+    ensures served { ServesRun (asked_of (map string_bytes words.now)) (F.told files.old) L.left (ends_by L.In.left L.Out.written L.In.faults L.Out.faults)
+        (arrivals (change (L.left listener.old) (L.left listener.new)) (change spawner.old.plan.next spawner.new.plan.next)) result.status }
     ensures told { TellsRun (asked_of (map string_bytes words.now)) result.connection (E.written errors.old) (E.written errors.new) (E.faults errors.old) (E.faults errors.new) result.status }
 {
     match read_words(alloc, words) {
@@ -136,6 +140,8 @@ where
     }) result.status result.connection }
     ensures closed { result.status ≡ Status.Done → ServesAt (said_by words.now).listen (L.left listener.new) }
     ensures listener { result.status ≡ Status.Listener → Rose (L.faults listener.old) (L.faults listener.new) ⊎ Rose spawner.old.plan.faults spawner.new.plan.faults }
+    ensures served { ServesBy (said_by words.now).listen (said_by words.now) (F.told files.old) L.left (ends_by L.In.left L.Out.written L.In.faults L.Out.faults)
+        (arrivals (change (L.left listener.old) (L.left listener.new)) (change spawner.old.plan.next spawner.new.plan.next)) result.status }
     ensures told { TellsAt (said_by words.now).listen (said_by words.now).users result.connection (E.written errors.old) (E.written errors.new) (E.faults errors.old) (E.faults errors.new) result.status }
 {
     match &words.mode {
@@ -222,6 +228,8 @@ where
     ensures cause { IsServerEnd (F.told files.old (said_by words.now).users) (change (F.faults files.old) (F.faults files.new)) result }
     ensures closed { result ≡ Status.Done → HasNoneLeft (L.left listener.new) }
     ensures listener { result ≡ Status.Listener → Rose (L.faults listener.old) (L.faults listener.new) ⊎ Rose spawner.old.plan.faults spawner.new.plan.faults }
+    ensures served { ServesFile (said_by words.now) (F.told files.old) L.left (ends_by L.In.left L.Out.written L.In.faults L.Out.faults)
+        (arrivals (change (L.left listener.old) (L.left listener.new)) (change spawner.old.plan.next spawner.new.plan.next)) result }
     ensures told { TellsServer (said_by words.now).users address.now (E.written errors.old) (E.written errors.new) (E.faults errors.old) (E.faults errors.new) result }
 {
     match users_told(alloc, words.users.as_str(), files, errors) {
@@ -259,6 +267,8 @@ where
     ensures only { IsServerStatus result }
     ensures closed { result ≡ Status.Done → HasNoneLeft (L.left listener.new) }
     ensures listener { result ≡ Status.Listener → Rose (L.faults listener.old) (L.faults listener.new) ⊎ Rose spawner.old.plan.faults spawner.new.plan.faults }
+    ensures served { ServesFor directory words.now.workers words.now.requests L.left (ends_by L.In.left L.Out.written L.In.faults L.Out.faults)
+        (arrivals (change (L.left listener.old) (L.left listener.new)) (change spawner.old.plan.next spawner.new.plan.next)) result }
     ensures told { TellsServer (said_by words.now).users address.now (E.written errors.old) (E.written errors.new) (E.faults errors.old) (E.faults errors.new) result }
 {
     match listener.listen(address) {
@@ -294,15 +304,23 @@ where
     ensures only { IsServerStatus result }
     ensures closed { result ≡ Status.Done → HasNoneLeft (L.left listener.new) }
     ensures listener { result ≡ Status.Listener → Rose (L.faults listener.old) (L.faults listener.new) ⊎ Rose spawner.old.plan.faults spawner.new.plan.faults }
+    ensures served { ServesFor directory words.now.workers words.now.requests L.left (ends_by L.In.left L.Out.written L.In.faults L.Out.faults)
+        (arrivals (change (L.left listener.old) (L.left listener.new)) (change spawner.old.plan.next spawner.new.plan.next)) result }
 {
-    match seats_for(
-        alloc,
-        directory,
-        words.workers,
-        words.connections,
-        words.requests,
-    ) {
-        Ok(seats) => server_status(serve(rt, alloc, seats, listener, spawner, clock)),
+    match server_for(alloc, directory, words.workers, words.requests) {
+        Ok((server, pass)) => {
+            let (served, _pass) = serve(
+                rt,
+                alloc,
+                server,
+                pass,
+                words.connections,
+                listener,
+                spawner,
+                clock,
+            );
+            server_status(served)
+        }
         Err(_) => Status::Memory,
     }
 }

@@ -1,21 +1,20 @@
-//! An engine for the users of a file, with what serves on it.
-ghost use Rattle.std.specs.Prelude.{◌≡◌, ◌≤◌, IfOk, length};
-ghost use Rattle.std.specs.Arc.{arc_value};
+//! A server for the users of a file.
+ghost use Rattle.std.specs.Prelude.{◌≡◌, ◌≤◌, IfOk};
 ghost use Rattle.mx_engine.specs.Shown.{Ties, site_of, stops_of, stores_of};
 ghost use Rattle.mx_engine.specs.Answers.{nothing};
-ghost use Rattle.mx_pool.specs.Runs.{ServesUsers, change, run_stops, site_for};
+ghost use Rattle.mx_pool.specs.Connections.{change};
+ghost use Rattle.mx_pool.specs.Runs.{ServesUsers, run_stops, site_for};
 
-use crate::seated::Seated;
 use crate::status::{Status, status_of};
-use mx_engine::{Engine, EnginePass, Setup, engine};
+use mx_engine::{EnginePass, Setup, engine};
 use mx_ids::Memory;
 use mx_outside::{Clock, Sink, Source};
 use mx_serve::{Ended, Server, serve_connection};
 use mx_users::Directory;
-use mx_writers::{Gate, Open};
+use mx_writers::Open;
 use std::alloc::Global;
 use std::rt;
-use std::sync::{Arc, Wait};
+use std::sync::Wait;
 
 /// No block of a stream is drawn once so many positions were.
 const STOP: u64 = 281_474_976_694_272;
@@ -46,7 +45,7 @@ pub(crate) fn serve_users<S: Source, K: Sink, C: Clock, R: Wait + rt::Clock>(
 }
 
 /// A server of so many requests a connection on an engine without a store, with so many writers a stream, and a pass of the engine.
-fn server_for(
+pub(crate) fn server_for(
     alloc: Global,
     directory: Directory,
     workers: u8,
@@ -66,69 +65,4 @@ fn server_for(
     };
     let (engine, pass) = engine(alloc, setup, Open)?;
     Ok((Server::new(alloc, engine, limit)?, pass))
-}
-
-/// So many seats of a server on an engine without a store, with so many writers a stream and so many requests a connection.
-pub(crate) fn seats_for(
-    alloc: Global,
-    directory: Directory,
-    workers: u8,
-    connections: u8,
-    limit: u64,
-) -> Result<Vec<Seated<Open>>, Memory>
-    requires workers { (1 ≤ workers) × (workers ≤ 16) }
-    requires connections { 1 ≤ connections }
-    ensures { IfOk result (λ seats. length seats.items ≡ connections) }
-{
-    let (server, pass) = server_for(alloc, directory, workers, limit)?;
-    all_seats(alloc, Arc::new(alloc, server)?, pass, connections)
-}
-
-/// So many seats of a server, the last with this pass.
-fn all_seats<G: Gate + Drop>(
-    alloc: Global,
-    server: Arc<Server<G>>,
-    pass: EnginePass,
-    count: u8,
-) -> Result<Vec<Seated<G>>, Memory>
-    requires ties { Ties (arc_value server).engine pass }
-    requires count { 1 ≤ count }
-    ensures { IfOk result (λ seats. length seats.items ≡ count) }
-{
-    let mut pass = pass;
-    let mut seats = more_seats(alloc, &server, &mut pass, count - 1)?;
-    seats.push(Seated::new(server, pass))?;
-    Ok(seats)
-}
-
-/// So many seats of a server, with new passes that have seen what `pass` has.
-fn more_seats<G: Gate + Drop>(
-    alloc: Global,
-    server: &Arc<Server<G>>,
-    pass: &mut EnginePass,
-    count: u8,
-) -> Result<Vec<Seated<G>>, Memory>
-    requires ties { Ties (arc_value server.now).engine pass.old }
-    ensures ties { Ties (arc_value server.now).engine pass.new }
-    ensures count { IfOk result (λ seats. length seats.items ≡ count) }
-{
-    let mut seats = Vec::new(alloc);
-    'seats: for _seat in 0..count {
-        seats.push(next_seat(alloc, server, pass)?)?;
-    }
-    Ok(seats)
-}
-
-/// A seat of a server, with a new pass that has seen what `pass` has.
-fn next_seat<G: Gate + Drop>(
-    alloc: Global,
-    server: &Arc<Server<G>>,
-    pass: &mut EnginePass,
-) -> Result<Seated<G>, Memory>
-    requires ties { Ties (arc_value server.now).engine pass.old }
-    ensures ties { Ties (arc_value server.now).engine pass.new }
-{
-    let theirs = Arc::try_clone(server)?;
-    let other = theirs.engine().pass(alloc, pass)?;
-    Ok(Seated::new(theirs, other))
 }

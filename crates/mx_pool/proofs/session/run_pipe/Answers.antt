@@ -1,6 +1,6 @@
 use Rattle.std.proofs.Common.{None, string_bytes, subst}
 use Rattle.mx_pool.specs.Lines.{Tells, line_of}
-use Rattle.mx_pool.specs.Runs.{change}
+use Rattle.mx_pool.specs.Connections.{change}
 use Rattle.mx_pool.proofs.Outcomes.{tells_none, tells_served}
 use Rattle.mx_pool.proofs.session.run_pipe.Goals as goal
 

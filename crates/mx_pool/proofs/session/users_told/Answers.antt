@@ -1,4 +1,4 @@
-use Rattle.mx_pool.specs.Runs.{change}
+use Rattle.mx_pool.specs.Connections.{change}
 use Rattle.mx_pool.proofs.Outcomes.{told_cause}
 use Rattle.mx_pool.proofs.session.users_told.Goals as goal
 

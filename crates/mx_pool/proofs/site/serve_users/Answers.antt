@@ -1,5 +1,5 @@
 use Rattle.mx_engine.specs.Shown.{stores_of, site_of, stops_of}
-use Rattle.mx_pool.specs.Runs.{change}
+use Rattle.mx_pool.specs.Connections.{change}
 use Rattle.mx_pool.proofs.Runs.{serves}
 use Rattle.mx_pool.proofs.site.serve_users.Goals as goal
 
