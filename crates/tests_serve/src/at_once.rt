@@ -1,15 +1,14 @@
 //! Two connections at once on an engine of four writers, one of whose writes is held between its draw and its store.
-ghost use Rattle.std.specs.Prelude.{◌≡◌, IfOk, length};
-ghost use Rattle.std.specs.Arc.{arc_value};
+ghost use Rattle.std.specs.Prelude.{◌≡◌, IfOk};
 ghost use Rattle.mx_engine.specs.Shown.{Ties};
 
 use crate::make::USERS;
 use crate::meeting::{Holding, Meeting, TurnSink, TurnSource};
 use crate::sessions::read_table;
-use mx_engine::{Engine, EnginePass, Setup, engine};
+use mx_engine::{EnginePass, Setup, engine};
 use mx_ids::Memory;
 use mx_outside::{MemListener, MemSource, Spawner, StepClock};
-use mx_pool::{Seated, Served, serve};
+use mx_pool::{Served, serve};
 use mx_serve::Server;
 use mx_users::read_users;
 use std::alloc::Global;
@@ -106,11 +105,8 @@ fn pair(
 }
 
 /// A server on an engine of four writers, of which the block of the first at 14 is held until six steps were made, and a pass.
-fn server(
-    alloc: Global,
-    meeting: Arc<Meeting>,
-) -> Result<(Arc<Server<Holding>>, EnginePass), Memory>
-    ensures ties { IfOk result (λ r. Ties (arc_value r.0).engine r.1) }
+fn server(alloc: Global, meeting: Arc<Meeting>) -> Result<(Server<Holding>, EnginePass), Memory>
+    ensures ties { IfOk result (λ r. Ties r.0.engine r.1) }
 {
     let Ok(users) = read_users(alloc, USERS.as_bytes()) else {
         return Err(Memory);
@@ -127,56 +123,11 @@ fn server(
         steps: 6,
     };
     let (engine, pass) = engine(alloc, setup, gate)?;
-    match shared(alloc, engine) {
+    match Server::new(alloc, engine, 1000) {
         Ok(server) => Ok((server, pass)),
         Err(refused) => {
             drop(pass);
             Err(refused)
-        }
-    }
-}
-
-/// A server on an engine, shared.
-fn shared(alloc: Global, engine: Engine<Holding>) -> Result<Arc<Server<Holding>>, Memory>
-    ensures { IfOk result (λ server. (arc_value server).engine ≡ engine) }
-{
-    Ok(Arc::new(alloc, Server::new(alloc, engine, 1000)?)?)
-}
-
-/// Two seats of a server.
-fn seats(
-    alloc: Global,
-    server: Arc<Server<Holding>>,
-    mut pass: EnginePass,
-) -> Result<Vec<Seated<Holding>>, Memory>
-    requires ties { Ties (arc_value server).engine pass }
-    ensures two { IfOk result (λ seats. length seats.items ≡ 2) }
-{
-    match twin(alloc, &server, &mut pass) {
-        Ok(twin) => Ok(Vec::from_array(alloc, [Seated::new(server, pass), twin])?),
-        Err(refused) => {
-            drop(pass);
-            drop(server);
-            Err(refused)
-        }
-    }
-}
-
-/// Another seat of a server, with a pass that has seen what a pass has seen.
-fn twin(
-    alloc: Global,
-    server: &Arc<Server<Holding>>,
-    pass: &mut EnginePass,
-) -> Result<Seated<Holding>, Memory>
-    requires ties { Ties (arc_value server.now).engine pass.old }
-    ensures ties { Ties (arc_value server.now).engine pass.new }
-{
-    let other = server.engine().pass(alloc, pass)?;
-    match Arc::try_clone(server) {
-        Ok(server) => Ok(Seated::new(server, other)),
-        Err(_) => {
-            drop(other);
-            Err(Memory)
         }
     }
 }
@@ -200,7 +151,7 @@ fn served<R: Wait + rt::Clock + Threads + Copy + Drop + Send + 'static>(
     served
 }
 
-/// The same of the connections of a listener.
+/// How the connections of a listener end, which are served on two seats.
 fn served_on<R: Wait + rt::Clock + Threads + Copy + Drop + Send + 'static>(
     rt: &R,
     alloc: Global,
@@ -208,27 +159,23 @@ fn served_on<R: Wait + rt::Clock + Threads + Copy + Drop + Send + 'static>(
     listener: &mut MemListener<TurnSource, TurnSink>,
 ) -> Result<Served, Memory> {
     let mut spawner = Spawner::in_threads(alloc)?;
-    let served = match two_seats(alloc, meeting) {
-        Ok(seats) => Ok(serve(
-            rt,
-            alloc,
-            seats,
-            listener,
-            &mut spawner,
-            &StepClock::new(1000, 1),
-        )),
-        Err(refused) => Err(refused),
-    };
+    let served = served_by(rt, alloc, meeting, listener, &mut spawner);
     drop(spawner);
     served
 }
 
-/// Two seats of a new server.
-fn two_seats(alloc: Global, meeting: &Arc<Meeting>) -> Result<Vec<Seated<Holding>>, Memory>
-    ensures two { IfOk result (λ seats. length seats.items ≡ 2) }
-{
+/// The same on two seats of a new server.
+fn served_by<R: Wait + rt::Clock + Threads + Copy + Drop + Send + 'static>(
+    rt: &R,
+    alloc: Global,
+    meeting: &Arc<Meeting>,
+    listener: &mut MemListener<TurnSource, TurnSink>,
+    spawner: &mut Spawner,
+) -> Result<Served, Memory> {
     let (server, pass) = server(alloc, Arc::try_clone(meeting)?)?;
-    seats(alloc, server, pass)
+    let clock = StepClock::new(1000, 1);
+    let (served, _pass) = serve(rt, alloc, server, pass, 2, listener, spawner, &clock);
+    Ok(served)
 }
 
 /// Without both connections at once, or where a token covers a write that is held, somebody waits in vain.

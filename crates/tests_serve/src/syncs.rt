@@ -46,6 +46,12 @@ fn joined_history_is_told_from_the_join(rt: HostRuntime) -> Result<(), Fail> {
 }
 
 #[test]
+fn reads_tell_what_is_redacted_without_its_content(rt: HostRuntime) -> Result<(), Fail> {
+    holds(&rt, rt.alloc(), sync_tables::REDACTED_READS)?;
+    Ok(())
+}
+
+#[test]
 fn state_redacted_between_syncs(rt: HostRuntime) -> Result<(), Fail> {
     holds(&rt, rt.alloc(), sync_tables::REDACTED_STATE)?;
     Ok(())
