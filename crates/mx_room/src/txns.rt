@@ -53,11 +53,11 @@ impl Ord for TxnKey {
 
     fn cmp(&self, other: &TxnKey) -> Ordering {
         let (own, its) = (&self.txn, &other.txn);
-        own.device.cmp(&its.device).then(
-            own.id
-                .cmp(&its.id)
-                .then(own.path.as_slice().cmp(&its.path.as_slice())),
-        )
+        // (most keys of a room differ in their ids alone, so a path is seldom compared)
+        own.device
+            .cmp(&its.device)
+            .then_with(|| own.id.cmp(&its.id))
+            .then_with(|| own.path.as_slice().cmp(&its.path.as_slice()))
     }
 }
 
