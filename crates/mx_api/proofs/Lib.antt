@@ -1,2 +1,4 @@
+mod Apart
+mod Depths
 mod Readers
 mod Spelled

@@ -6,3 +6,4 @@ pub mod Parts
 pub mod Queries
 pub mod Routing
 pub mod Tokens
+pub mod Levels

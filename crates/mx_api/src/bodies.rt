@@ -1,8 +1,9 @@
 //! The body of a call as an object.
 ghost use Rattle.std.specs.Prelude.{◌≡◌, IfOk};
 ghost use Rattle.mx_json.specs.Fields.{text_at};
-ghost use Rattle.mx_api.specs.Bodies.{json_of, object_in, object_of, posted};
+ghost use Rattle.mx_api.specs.Bodies.{json_of, object_in, object_of, posted, shallow_in};
 
+use crate::depth::nests_within;
 use crate::refused::{Field, Refused};
 use mx_create::BodyField;
 use mx_ids::{Copied, Memory, Text};
@@ -21,18 +22,32 @@ pub fn object_body(alloc: Global, body: &[u8]) -> Result<Result<Json, Refused>, 
     }
 }
 
+/// How many levels the value of a body, or of a filter in a query, may nest.
+const MOST_LEVELS: u8 = 100;
+
 /// The value that a text is: that of a body, or of a filter in a query. The first refusal that applies: `NotJson`,
-/// `Fraction` or `IntegerRange` as `mx_json::read` gives them.
+/// `Fraction` or `IntegerRange` as `mx_json::read` gives them, and `TooDeep` where it nests more than 100 levels.
 #[tactic(auto, unfolding(crate::specs::Bodies::json_of))]
 pub fn json_value(alloc: Global, bytes: &[u8]) -> Result<Result<Json, Refused>, Memory>
     ensures { IfOk result (λ r. r ≡ json_of bytes.now) }
 {
     match read(alloc, bytes) {
-        Ok(json) => Ok(Ok(json)),
+        Ok(json) => Ok(shallow(json)),
         Err(JsonFault::NotJson) => Ok(Err(Refused::NotJson)),
         Err(JsonFault::Fraction) => Ok(Err(Refused::Fraction)),
         Err(JsonFault::IntegerRange) => Ok(Err(Refused::IntegerRange)),
-        Err(JsonFault::Memory) => Err(Memory),
+        Err(JsonFault::Memory(refused)) => Err(refused),
+    }
+}
+
+/// The value, if it nests at most 100 levels.
+fn shallow(json: Json) -> Result<Json, Refused>
+    ensures { result ≡ shallow_in json }
+{
+    if nests_within(&json, MOST_LEVELS) {
+        Ok(json)
+    } else {
+        Err(Refused::TooDeep)
     }
 }
 

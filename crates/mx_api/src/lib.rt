@@ -15,6 +15,7 @@
 mod asked;
 mod authenticated;
 mod bodies;
+mod depth;
 mod endpoint;
 mod parts;
 mod queries;
@@ -30,6 +31,6 @@ pub use endpoint::{Endpoint, ask_at};
 pub use parts::{four_parts, one_part, room_of, three_parts, two_parts};
 pub use queries::{begins_object, first_wrong, number_within, value_at};
 pub use refused::{Field, Parameter, Refused, refused_json};
-pub use routing::router_of;
+pub use routing::{TableFault, router_of};
 pub use texts::{error_json, text};
 pub use tokens::{page_token_of, sync_token_of};

@@ -71,6 +71,8 @@ pub enum Refused {
     Fraction,
     /// A number of it is outside plus or minus 9,007,199,254,740,991.
     IntegerRange,
+    /// It nests more than 100 levels.
+    TooDeep,
     /// It isn't of its form.
     BadShape(Field),
     /// A filter asks for the event format `federation`.
@@ -136,6 +138,7 @@ impl Refused {
             | Refused::NotJson
             | Refused::Fraction
             | Refused::IntegerRange
+            | Refused::TooDeep
             | Refused::BadShape(_)
             | Refused::EventFormat => 400,
         }
@@ -153,9 +156,11 @@ impl Refused {
             Refused::MissingParameter(_) => "M_MISSING_PARAM",
             Refused::BadPath | Refused::BadParameter(_) | Refused::EventFormat => "M_INVALID_PARAM",
             Refused::NotJson => "M_NOT_JSON",
-            Refused::Fraction | Refused::IntegerRange | Refused::BadShape(_) | Refused::OwnType => {
-                "M_BAD_JSON"
-            }
+            Refused::Fraction
+            | Refused::IntegerRange
+            | Refused::TooDeep
+            | Refused::BadShape(_)
+            | Refused::OwnType => "M_BAD_JSON",
         }
     }
 
@@ -175,6 +180,7 @@ impl Refused {
             Refused::NotJson => text(alloc, "not JSON"),
             Refused::Fraction => text(alloc, "bad JSON: fraction"),
             Refused::IntegerRange => text(alloc, "bad JSON: integer out of range"),
+            Refused::TooDeep => text(alloc, "bad JSON: nested too deep"),
             Refused::BadShape(field) => field_text(alloc, field),
             Refused::EventFormat => text(alloc, "invalid parameter: event_format"),
             Refused::OwnType => text(alloc, "bad JSON: type"),

@@ -26,9 +26,9 @@ has_method route.Messages method = bytes_eq method (codes "GET")
 has_method route.Receipt method = bytes_eq method (codes "POST")
 has_method route.ReadMarkers method = bytes_eq method (codes "POST")
 
--- the table of all routes
-unfoldable pub table : RowsOf (RouteOf Route)
-table = rows_of path_of (
+-- all of them
+abbrev pub routes : List Route
+routes =
     route.JoinedRooms
     ∷ route.State
     ∷ route.Members
@@ -36,4 +36,8 @@ table = rows_of path_of (
     ∷ route.Messages
     ∷ route.Receipt
     ∷ route.ReadMarkers
-    ∷ [])
+    ∷ []
+
+-- the table of all routes
+unfoldable pub table : RowsOf (RouteOf Route)
+table = rows_of path_of routes

@@ -6,7 +6,7 @@ ghost use Rattle.mx_api_reads.specs.Routes.{table};
 
 use crate::route::{ROUTES, Route};
 use matchit::Router;
-use mx_api::{Asked, ask_at, router_of};
+use mx_api::{Asked, TableFault, ask_at, router_of};
 use mx_http::Call;
 use mx_ids::Memory;
 use mx_users::Directory;
@@ -22,9 +22,11 @@ pub struct ReadRoutes {
 /// The table. `Memory` where there is no room for it.
 #[tactic(auto, unfolding(crate::specs::Routes::table))]
 pub fn read_routes(alloc: Global) -> Result<ReadRoutes, Memory> {
-    Ok(ReadRoutes {
-        router: router_of(alloc, ROUTES.as_slice())?,
-    })
+    match router_of(alloc, ROUTES.as_slice()) {
+        Ok(router) => Ok(ReadRoutes { router }),
+        Err(TableFault::Memory(refused)) => Err(refused),
+        Err(TableFault::Conflict) => unreachable!(),
+    }
 }
 
 /// What a call that reads rooms asks, or marks as read (Client-Server API, Getting events for a room, Receipts, Fully read

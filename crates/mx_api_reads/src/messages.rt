@@ -81,6 +81,6 @@ fn filter_in(alloc: Global, json: &Json) -> Result<Result<Filter, Refused>, Memo
         Ok(filter) => Ok(Ok(filter)),
         Err(FilterFault::Shape(path)) => Ok(Err(Refused::BadShape(Field::Path(path)))),
         Err(FilterFault::Format) => Ok(Err(Refused::EventFormat)),
-        Err(FilterFault::Memory) => Err(Memory),
+        Err(FilterFault::Memory(refused)) => Err(refused),
     }
 }

@@ -38,9 +38,9 @@ has_method route.Kick method = bytes_eq method (codes "POST")
 has_method route.Ban method = bytes_eq method (codes "POST")
 has_method route.Unban method = bytes_eq method (codes "POST")
 
--- the table of all routes
-unfoldable pub table : RowsOf (RouteOf Route)
-table = rows_of path_of (
+-- all of them
+abbrev pub routes : List Route
+routes =
     route.CreateRoom
     ∷ route.Send
     ∷ route.StateAtKey
@@ -54,4 +54,8 @@ table = rows_of path_of (
     ∷ route.Kick
     ∷ route.Ban
     ∷ route.Unban
-    ∷ [])
+    ∷ []
+
+-- the table of all routes
+unfoldable pub table : RowsOf (RouteOf Route)
+table = rows_of path_of routes

@@ -38,9 +38,9 @@ has_method route.Rule method = bytes_eq method (codes "GET") || bytes_eq method 
 has_method route.Enabled method = bytes_eq method (codes "PUT") || bytes_eq method (codes "GET")
 has_method route.Actions method = bytes_eq method (codes "PUT") || bytes_eq method (codes "GET")
 
--- the table of all routes
-unfoldable pub table : RowsOf (RouteOf Route)
-table = rows_of path_of (
+-- all of them
+abbrev pub routes : List Route
+routes =
     route.WhoAmI
     ∷ route.Sync
     ∷ route.Filters
@@ -54,4 +54,8 @@ table = rows_of path_of (
     ∷ route.Rule
     ∷ route.Enabled
     ∷ route.Actions
-    ∷ [])
+    ∷ []
+
+-- the table of all routes
+unfoldable pub table : RowsOf (RouteOf Route)
+table = rows_of path_of routes

@@ -6,7 +6,7 @@ ghost use Rattle.mx_api_user.specs.Routes.{table};
 
 use crate::route::{ROUTES, Route};
 use matchit::Router;
-use mx_api::{Asked, ask_at, router_of};
+use mx_api::{Asked, TableFault, ask_at, router_of};
 use mx_http::Call;
 use mx_ids::Memory;
 use mx_users::Directory;
@@ -22,9 +22,11 @@ pub struct UserRoutes {
 /// The table. `Memory` where there is no room for it.
 #[tactic(auto, unfolding(crate::specs::Routes::table))]
 pub fn user_routes(alloc: Global) -> Result<UserRoutes, Memory> {
-    Ok(UserRoutes {
-        router: router_of(alloc, ROUTES.as_slice())?,
-    })
+    match router_of(alloc, ROUTES.as_slice()) {
+        Ok(router) => Ok(UserRoutes { router }),
+        Err(TableFault::Memory(refused)) => Err(refused),
+        Err(TableFault::Conflict) => unreachable!(),
+    }
 }
 
 /// What a call asks on a user's own data (Client-Server API), or the first refusal that applies; `NoRoute` where its path

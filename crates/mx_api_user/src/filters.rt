@@ -16,8 +16,8 @@ use mx_json::Json;
 use std::alloc::Global;
 
 /// What the parameter `filter` of a sync asks (Client-Server API, Filtering): a text that begins with `{` is the filter
-/// itself, and another one, of digits, the id of a stored filter. The first refusal that applies to a filter: `NotJson`, `Fraction` or
-/// `IntegerRange` as `mx_json::read` gives them, `BadShape` with the path of its first field that is of the wrong type, and
+/// itself, and another one, of digits, the id of a stored filter. The first refusal that applies to a filter: those of `json_value`,
+/// `BadShape` with the path of its first field that is of the wrong type, and
 /// `EventFormat` where it asks for the format of federation.
 #[tactic(auto, unfolding(crate::specs::Filters::filter_asked))]
 pub(crate) fn filter_asked(
@@ -46,7 +46,7 @@ fn inline_filter(alloc: Global, json: &Json) -> Result<Result<FilterAsk, Refused
         Ok(filter) => Ok(Ok(FilterAsk::Inline(filter))),
         Err(FilterFault::Shape(path)) => Ok(Err(Refused::BadShape(Field::Path(path)))),
         Err(FilterFault::Format) => Ok(Err(Refused::EventFormat)),
-        Err(FilterFault::Memory) => Err(Memory),
+        Err(FilterFault::Memory(refused)) => Err(refused),
     }
 }
 

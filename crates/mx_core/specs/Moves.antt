@@ -38,5 +38,5 @@ IsRefused s (Draw writer count) (AtLimit next) = (block_of s writer ≡ None) ×
 IsRefused s (Store writer items) NothingDrawn = block_of s writer ≡ None
 IsRefused s (Store writer items) (WrongCount drawn given) =
     (b : Block) × (block_of s writer ≡ Some b) × (b.count ≢ length items) × (drawn ≡ b.count) × (given ≡ length items)
-IsRefused s (Store writer items) Memory = (b : Block) × (block_of s writer ≡ Some b) × (b.count ≡ length items)
+IsRefused s (Store writer items) (Memory _) = (b : Block) × (block_of s writer ≡ Some b) × (b.count ≡ length items)
 IsRefused s step fault = ⊥

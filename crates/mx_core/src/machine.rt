@@ -52,17 +52,18 @@ pub enum StepFault {
     /// The draw would reach the limit: the last position that was drawn.
     AtLimit(u64),
     /// The allocator refused the room for one more store.
-    Memory,
+    Memory(Memory),
 }
 
 impl<T: Drop> From<AllocFailed<T>> for StepFault {
     ghost use Rattle.std.specs.Prelude.{◌≡◌};
+    ghost use Rattle.mx_ids.specs.Memory.{refused_memory};
     ghost use Rattle.mx_core.specs.declared.machine.StepFault.TheVariants as faults;
 
-    ghost from_gives = { λ _ e. e ≡ faults.Memory };
+    ghost from_gives = { λ _ e. e ≡ faults.Memory refused_memory };
 
-    fn from(_refused: AllocFailed<T>) -> StepFault {
-        StepFault::Memory
+    fn from(refused: AllocFailed<T>) -> StepFault {
+        StepFault::Memory(refused.into())
     }
 }
 

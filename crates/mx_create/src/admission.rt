@@ -3,6 +3,7 @@ ghost use Rattle.std.specs.Prelude.{◌≡◌, ◌⊎◌, ◌≤◌, [], Ok, Err
 ghost use Rattle.std.specs.List.{list_all};
 ghost use Rattle.mx_room.specs.Books.{SameRooms};
 ghost use Rattle.mx_create.specs.Admitted.{IsBlock, admitted_block, first_denied, fits_its_server, judged, made};
+ghost use Rattle.mx_ids.specs.Memory.{refused_memory};
 ghost use Rattle.mx_create.specs.declared.fault.CreateFault.TheVariants as faults;
 
 use crate::fault::CreateFault;
@@ -28,7 +29,7 @@ pub fn admit_block(
     requires block { IsBlock drafts }
     ensures found { IfOk result (λ p. admitted_block book.old.writer drafts ≡ Ok p.items) }
     ensures count { IfOk result (λ p. (1 ≤ length p.items) × (length p.items ≤ 256)) }
-    ensures refused { IfErr result (λ f. (f ≡ faults.Memory) ⊎ (admitted_block book.old.writer drafts ≡ Err f)) }
+    ensures refused { IfErr result (λ f. (f ≡ faults.Memory refused_memory) ⊎ (admitted_block book.old.writer drafts ≡ Err f)) }
     ensures same { SameRooms book.old book.new }
     ensures pending { IfOk result (λ p. book.new.pending ≡ p.items) }
 {
@@ -61,7 +62,7 @@ fn event_of(writer: u8, draft: Draft) -> Event
 #[tactic(auto, unfolding(crate::specs::Admitted::judged))]
 fn judge(alloc: Global, events: &[Event]) -> Result<(), CreateFault>
     ensures found { OnOk result (judged events.now ≡ Ok events.now) }
-    ensures refused { IfErr result (λ f. (f ≡ faults.Memory) ⊎ (judged events.now ≡ Err f)) }
+    ensures refused { IfErr result (λ f. (f ≡ faults.Memory refused_memory) ⊎ (judged events.now ≡ Err f)) }
 {
     if !all_fit(events) {
         return Err(CreateFault::TooLarge);

@@ -7,6 +7,7 @@ ghost use Rattle.mx_create.specs.Blocks.{Creating, block_of, creating, draft, dr
 ghost use Rattle.mx_create.specs.Bodies.{invited, is_create_body, is_text_value, listed};
 ghost use Rattle.mx_create.specs.Contents.{single};
 ghost use Rattle.mx_json.specs.declared.value.Json.TheVariants as json;
+ghost use Rattle.mx_ids.specs.Memory.{refused_memory};
 ghost use Rattle.mx_create.specs.declared.fault.CreateFault.TheVariants as faults;
 ghost use Rattle.mx_create.specs.declared.preset.Preset.{Preset};
 
@@ -58,7 +59,7 @@ pub fn block(
     ensures found { IfOk result (λ drafts. block_of (record { creator = creator.now; ts = ts }) users.now ask.now ≡ Ok drafts) }
     ensures block { IfOk result IsBlock }
     ensures test { IfOk result (λ drafts. is_block drafts ≡ true) }
-    ensures refused { IfErr result (λ f. (f ≡ faults.Memory) ⊎ (block_of (record { creator = creator.now; ts = ts }) users.now ask.now ≡ Err f)) }
+    ensures refused { IfErr result (λ f. (f ≡ faults.Memory refused_memory) ⊎ (block_of (record { creator = creator.now; ts = ts }) users.now ask.now ≡ Err f)) }
 {
     if !is_eleven(ask) {
         return Err(CreateFault::Version);

@@ -28,16 +28,16 @@ pub enum CreateFault {
     State(u8),
     /// The allocator refused.
     #[error("no memory")]
-    Memory,
+    Memory(Memory),
 }
 
 impl From<Memory> for CreateFault {
     ghost use Rattle.std.specs.Prelude.{◌≡◌};
     ghost use Rattle.mx_create.specs.declared.fault.CreateFault.TheVariants as faults;
 
-    ghost from_gives = { λ _ e. e ≡ faults.Memory };
+    ghost from_gives = { λ m e. e ≡ faults.Memory m };
 
-    fn from(_refused: Memory) -> CreateFault {
-        CreateFault::Memory
+    fn from(refused: Memory) -> CreateFault {
+        CreateFault::Memory(refused)
     }
 }

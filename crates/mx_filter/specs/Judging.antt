@@ -6,7 +6,7 @@ use Rattle.mx_filter.specs.declared.fault.FilterFault.TheVariants as faults
 abbrev pub JudgesFault : FilterFault → Option (List ℕ) → Type 0
 JudgesFault (faults.Shape path) wrong = wrong ≡ Some path
 JudgesFault faults.Format wrong = ⊥
-JudgesFault faults.Memory wrong = ⊤
+JudgesFault (faults.Memory _) wrong = ⊤
 
 abbrev pub Judges : Result (Unit {0}) FilterFault → Option (List ℕ) → Type 0
 Judges (Ok u) wrong = wrong ≡ None

@@ -15,27 +15,28 @@ pub enum FilterFault {
     Format,
     /// An allocation was refused.
     #[error("want of memory")]
-    Memory,
+    Memory(Memory),
 }
 
 impl From<Memory> for FilterFault {
     ghost use Rattle.std.specs.Prelude.{◌≡◌};
     ghost use Rattle.mx_filter.specs.declared.fault.FilterFault.TheVariants as faults;
 
-    ghost from_gives = { λ _ e. e ≡ faults.Memory };
+    ghost from_gives = { λ m e. e ≡ faults.Memory m };
 
-    fn from(_refused: Memory) -> FilterFault {
-        FilterFault::Memory
+    fn from(refused: Memory) -> FilterFault {
+        FilterFault::Memory(refused)
     }
 }
 
 impl From<AllocError> for FilterFault {
     ghost use Rattle.std.specs.Prelude.{◌≡◌};
+    ghost use Rattle.mx_ids.specs.Memory.{refused_memory};
     ghost use Rattle.mx_filter.specs.declared.fault.FilterFault.TheVariants as faults;
 
-    ghost from_gives = { λ _ e. e ≡ faults.Memory };
+    ghost from_gives = { λ _ e. e ≡ faults.Memory refused_memory };
 
-    fn from(_refused: AllocError) -> FilterFault {
-        FilterFault::Memory
+    fn from(refused: AllocError) -> FilterFault {
+        FilterFault::Memory(refused.into())
     }
 }

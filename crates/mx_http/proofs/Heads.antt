@@ -136,7 +136,7 @@ pub apart_finds : (bytes front : List ℕ) (r : Result (Option Head) HttpFault) 
 apart_finds bytes front (Ok (Some parts)) e x = parts_of_all bytes head_limit parts (subst (λ l. HasParts l parts) e x)
 apart_finds bytes front (Ok None) e x = absurd x
 apart_finds bytes front (Err faults.Head) e x = bad_size_of_all bytes head_limit (subst HasBadSize e x)
-apart_finds bytes front (Err faults.Memory) e x = tt
+apart_finds bytes front (Err (faults.Memory _)) e x = tt
 apart_finds bytes front (Err faults.Cut) e x = absurd x
 apart_finds bytes front (Err faults.ReadFault) e x = absurd x
 

@@ -51,7 +51,7 @@ pub body_failed : (first new left : Option (List ℕ)) (held : List ℕ) (parts 
 body_failed first new left held parts faults.Head p x a b f = absurd (a refl)
 body_failed first new left held parts faults.Cut p x a b f = let cut = b refl in let short = body_cut held parts x cut.0 in (p, short.0, short.1, cut.1)
 body_failed first new left held parts faults.ReadFault p x a b f = (p, inr (body_cut held parts x (f refl)).0)
-body_failed first new left held parts faults.Memory p x a b f = p
+body_failed first new left held parts (faults.Memory _) p x a b f = p
 
 -- what a request takes
 front_goes : (first left : Option (List ℕ)) (held : List ℕ) (n : ℕ) → Keeps first (prepend_known held left) → Consumes first (prepend_known (drop n held) left) (take n held)

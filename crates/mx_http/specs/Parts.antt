@@ -46,7 +46,7 @@ abbrev pub TakesApart : List ℕ → Result (Option Head) HttpFault → Type 0
 TakesApart bytes (Ok (Some parts)) = HasParts bytes parts
 TakesApart bytes (Ok None) = ⊥
 TakesApart bytes (Err faults.Head) = HasBadSize bytes
-TakesApart bytes (Err faults.Memory) = Unit {0}
+TakesApart bytes (Err (faults.Memory _)) = Unit {0}
 TakesApart bytes (Err faults.Cut) = ⊥
 TakesApart bytes (Err faults.ReadFault) = ⊥
 
@@ -55,7 +55,7 @@ abbrev pub FindsHead : List ℕ → Result (Option Head) HttpFault → Type 0
 FindsHead bytes (Ok (Some parts)) = HasParts bytes parts
 FindsHead bytes (Ok None) = (length bytes < head_limit) × (IsOpenHead bytes ⊎ IsBlank bytes)
 FindsHead bytes (Err faults.Head) = IsFaulty bytes
-FindsHead bytes (Err faults.Memory) = Unit {0}
+FindsHead bytes (Err (faults.Memory _)) = Unit {0}
 FindsHead bytes (Err faults.Cut) = ⊥
 FindsHead bytes (Err faults.ReadFault) = ⊥
 
@@ -66,7 +66,7 @@ EndsWith held (Ok None) = IsBlank held
 EndsWith held (Err faults.Cut) = IsUnfinished held × (IsBlank held → ⊥)
 EndsWith held (Err faults.Head) = ⊥
 EndsWith held (Err faults.ReadFault) = ⊥
-EndsWith held (Err faults.Memory) = ⊥
+EndsWith held (Err (faults.Memory _)) = ⊥
 
 -- a whole head at the front, the end of the source, or a fault; where the source failed no head is whole
 abbrev pub GivesHead : List ℕ → Option (List ℕ) → Result (Option Head) HttpFault → Type 0
@@ -75,4 +75,4 @@ GivesHead held left (Ok None) = IsBlank held × IsAtEnd left
 GivesHead held left (Err faults.Head) = IsFaulty held
 GivesHead held left (Err faults.Cut) = IsUnfinished held × (IsBlank held → ⊥) × IsAtEnd left
 GivesHead held left (Err faults.ReadFault) = IsBlank held ⊎ IsUnfinished held
-GivesHead held left (Err faults.Memory) = Unit {0}
+GivesHead held left (Err (faults.Memory _)) = Unit {0}

@@ -15,7 +15,7 @@ Reads old new held left (Ok None) = Keeps old new × IsBlank held × IsAtEnd lef
 Reads old new held left (Err faults.Head) = Keeps old new × IsFaulty held
 Reads old new held left (Err faults.Cut) = Keeps old new × IsUnfinished held × (IsBlank held → ⊥) × IsAtEnd left
 Reads old new held left (Err faults.ReadFault) = Keeps old new × (IsBlank held ⊎ IsUnfinished held)
-Reads old new held left (Err faults.Memory) = Keeps old new
+Reads old new held left (Err (faults.Memory _)) = Keeps old new
 
 -- no fault of the source was counted, unless the answer says that it failed
 abbrev pub CountsReadFault : {A : Type 0} → Result A HttpFault → ℕ → ℕ → Type 0
@@ -23,4 +23,4 @@ CountsReadFault (Ok x) before now = now ≡ before
 CountsReadFault (Err faults.Head) before now = now ≡ before
 CountsReadFault (Err faults.Cut) before now = now ≡ before
 CountsReadFault (Err faults.ReadFault) before now = Unit {0}
-CountsReadFault (Err faults.Memory) before now = now ≡ before
+CountsReadFault (Err (faults.Memory _)) before now = now ≡ before

@@ -14,6 +14,6 @@ abbrev pub Fills : Option (List ℕ) → Option (List ℕ) → List ℕ → List
 Fills old new before now (Ok true) = (piece : List ℕ) × (0 < length piece) × (now ≡ before ++ piece) × Consumes old new piece
 Fills old new before now (Ok false) = (now ≡ before) × Keeps old new × IsAtEnd new
 Fills old new before now (Err faults.ReadFault) = (now ≡ before) × Keeps old new
-Fills old new before now (Err faults.Memory) = (now ≡ before) × Keeps old new
+Fills old new before now (Err (faults.Memory _)) = (now ≡ before) × Keeps old new
 Fills old new before now (Err faults.Head) = ⊥
 Fills old new before now (Err faults.Cut) = ⊥

@@ -12,16 +12,16 @@ pub enum HttpFault {
     /// The source failed, and its count of faults rose.
     ReadFault,
     /// Want of memory.
-    Memory,
+    Memory(Memory),
 }
 
 impl From<Memory> for HttpFault {
     ghost use Rattle.std.specs.Prelude.{◌≡◌};
     ghost use Rattle.mx_http.specs.declared.fault.HttpFault.TheVariants as faults;
 
-    ghost from_gives = { λ _ e. e ≡ faults.Memory };
+    ghost from_gives = { λ m e. e ≡ faults.Memory m };
 
-    fn from(_: Memory) -> Self {
-        HttpFault::Memory
+    fn from(refused: Memory) -> Self {
+        HttpFault::Memory(refused)
     }
 }

@@ -15,16 +15,16 @@ pub enum JsonFault {
     IntegerRange,
     /// Want of memory.
     #[error("out of memory")]
-    Memory,
+    Memory(Memory),
 }
 
 impl From<Memory> for JsonFault {
     ghost use Rattle.std.specs.Prelude.{◌≡◌};
     ghost use Rattle.mx_json.specs.declared.fault.JsonFault.TheVariants as faults;
 
-    ghost from_gives = { λ _ e. e ≡ faults.Memory };
+    ghost from_gives = { λ m e. e ≡ faults.Memory m };
 
-    fn from(_refused: Memory) -> JsonFault {
-        JsonFault::Memory
+    fn from(refused: Memory) -> JsonFault {
+        JsonFault::Memory(refused)
     }
 }

@@ -3,6 +3,7 @@ ghost use Rattle.std.specs.Prelude.{◌≡◌, ◌≢◌, [], ◌∷◌, ◌++�
 ghost use Rattle.std.specs.String.{string_bytes};
 ghost use Rattle.serde_json.specs.View.{view, number_view, items_view, members_view};
 ghost use Rattle.serde_json.specs.Find.{as_i64};
+ghost use Rattle.mx_ids.specs.Memory.{refused_memory};
 ghost use Rattle.mx_json.specs.declared.fault.JsonFault.TheVariants as faults;
 ghost use Rattle.mx_json.specs.declared.value.Json as json;
 ghost use Rattle.mx_json.specs.Keys.{keys_of, are_ordered};
@@ -16,7 +17,7 @@ use crate::numbers::{Flaw, is_flawed};
 use crate::value::Json;
 use mx_ids::{Memory, Seq, Text};
 use serde_json::{Map, Number, Value};
-use std::alloc::Global;
+use std::alloc::{AllocError, Global};
 
 /// The value that a text is (RFC 8259; Appendices, Canonical JSON), as `read_json` of specs/Reading says.
 ///
@@ -27,13 +28,13 @@ use std::alloc::Global;
 /// only where the allocator refuses.
 pub fn read(alloc: Global, bytes: &[u8]) -> Result<Json, JsonFault>
     ensures found { IfOk result (λ j. read_json bytes.now ≡ Ok j) }
-    ensures refused { IfErr result (λ f. f ≢ faults.Memory → read_json bytes.now ≡ Err f) }
+    ensures refused { IfErr result (λ f. f ≢ faults.Memory refused_memory → read_json bytes.now ≡ Err f) }
 {
     match Value::from_slice(alloc, bytes) {
         Ok(value) => check(alloc, value),
         Err(error) => {
             if error.is_memory() {
-                Err(JsonFault::Memory)
+                Err(JsonFault::Memory(AllocError.into()))
             } else {
                 Err(JsonFault::NotJson)
             }
@@ -43,7 +44,7 @@ pub fn read(alloc: Global, bytes: &[u8]) -> Result<Json, JsonFault>
 
 fn check(alloc: Global, value: Value) -> Result<Json, JsonFault>
     ensures found { IfOk result (λ j. checked (view value) ≡ Ok j) }
-    ensures refused { IfErr result (λ f. f ≢ faults.Memory → checked (view value) ≡ Err f) }
+    ensures refused { IfErr result (λ f. f ≢ faults.Memory refused_memory → checked (view value) ≡ Err f) }
 {
     if is_flawed(&value, Flaw::Fraction) {
         return Err(JsonFault::Fraction);

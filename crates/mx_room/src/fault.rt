@@ -20,16 +20,16 @@ pub enum RoomFault {
     Denied(u8),
     /// The allocator refused.
     #[error("no memory")]
-    Memory,
+    Memory(Memory),
 }
 
 impl From<Memory> for RoomFault {
     ghost use Rattle.std.specs.Prelude.{◌≡◌};
     ghost use Rattle.mx_room.specs.declared.fault.RoomFault.TheVariants as faults;
 
-    ghost from_gives = { λ _ e. e ≡ faults.Memory };
+    ghost from_gives = { λ m e. e ≡ faults.Memory m };
 
-    fn from(_refused: Memory) -> RoomFault {
-        RoomFault::Memory
+    fn from(refused: Memory) -> RoomFault {
+        RoomFault::Memory(refused)
     }
 }

@@ -5,6 +5,7 @@ ghost use Rattle.std.specs.Vec.{vec_capacity};
 ghost use Rattle.mx_core.specs.History.{placed_from};
 ghost use Rattle.mx_event.specs.Lawful.{placed_event};
 ghost use Rattle.mx_event.specs.State.{membership_of};
+ghost use Rattle.mx_ids.specs.Memory.{refused_memory};
 ghost use Rattle.mx_room.specs.declared.fault.RoomFault.TheVariants as faults;
 ghost use Rattle.mx_room.specs.Admitting.{admitted_by, answered, has_room, outcome, ready_block};
 ghost use Rattle.mx_room.specs.Books.{no_rooms, room_events, taken_in, MayStand, SameRooms};
@@ -101,7 +102,7 @@ impl RoomBook {
     /// for the transaction, the rules, and the copies of what the event sets.
     pub fn admit(&mut self, draft: Draft) -> Result<Admitted, RoomFault>
         ensures found { IfOk result (λ a. admitted_by self.old draft ≡ Ok a) }
-        ensures refused { IfErr result (λ f. (f ≡ faults.Memory) ⊎ (admitted_by self.old draft ≡ Err f)) }
+        ensures refused { IfErr result (λ f. (f ≡ faults.Memory refused_memory) ⊎ (admitted_by self.old draft ≡ Err f)) }
         ensures same { SameRooms self.old self.new }
         ensures pending { IfOk result (λ a. self.new.pending ≡ ready_block a self.old.pending) }
     {
@@ -115,7 +116,7 @@ impl RoomBook {
     /// Readies an event, or answers the id of the event that the device sent before in the same transaction.
     fn ready_one(&mut self, event: &Event) -> Result<Option<EventId>, RoomFault>
         ensures found { IfOk result (λ sent. outcome self.old event.now ≡ Ok (answered event.now sent)) }
-        ensures refused { IfErr result (λ f. (f ≡ faults.Memory) ⊎ (outcome self.old event.now ≡ Err f)) }
+        ensures refused { IfErr result (λ f. (f ≡ faults.Memory refused_memory) ⊎ (outcome self.old event.now ≡ Err f)) }
         ensures same { SameRooms self.old self.new }
         ensures pending { IfOk result (λ sent. self.new.pending ≡ ready_block (answered event.now sent) self.old.pending) }
     {

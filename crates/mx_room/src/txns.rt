@@ -127,10 +127,10 @@ impl TxnIndex {
         };
         match self.earlier.insert(last.key, last.id) {
             Ok(_) => Ok(()),
-            Err(refused) => {
-                let (key, id) = refused.value;
+            Err(failed) => {
+                let ((key, id), refused) = Memory::with_value(failed);
                 self.last = Some(SentTxn { key, id });
-                Err(Memory)
+                Err(refused)
             }
         }
     }

@@ -9,7 +9,7 @@ JudgesFault faults.NoRule fault = fault ≡ Some faults.NoRule
 JudgesFault faults.BadCondition fault = fault ≡ Some faults.BadCondition
 JudgesFault faults.BadAction fault = fault ≡ Some faults.BadAction
 JudgesFault (faults.NoNeighbour side) fault = fault ≡ Some (faults.NoNeighbour side)
-JudgesFault faults.Memory fault = ⊤
+JudgesFault (faults.Memory _) fault = ⊤
 
 abbrev pub Judges : Result (Unit {0}) RuleFault → Option RuleFault → Type 0
 Judges (Ok u) fault = fault ≡ None

@@ -29,16 +29,16 @@ pub enum RuleFault {
     NoNeighbour(Side),
     /// An allocation was refused.
     #[error("want of memory")]
-    Memory,
+    Memory(Memory),
 }
 
 impl From<Memory> for RuleFault {
     ghost use Rattle.std.specs.Prelude.{◌≡◌};
     ghost use Rattle.mx_rules.specs.declared.fault.RuleFault.TheVariants as faults;
 
-    ghost from_gives = { λ _ e. e ≡ faults.Memory };
+    ghost from_gives = { λ m e. e ≡ faults.Memory m };
 
-    fn from(_refused: Memory) -> RuleFault {
-        RuleFault::Memory
+    fn from(refused: Memory) -> RuleFault {
+        RuleFault::Memory(refused)
     }
 }

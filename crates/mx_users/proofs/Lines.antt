@@ -90,4 +90,4 @@ read_on whole n o server name u lines f r first found copied started reads =
 -- a fault that is handed on, where what was told at a line is told of the whole
 pub handed_on : {A B : Type 0} (part whole : Result Users ℕ) (f : A → Users) (g : B → Users) (e : UsersFault) → ((m : ℕ) → part ≡ Err m → whole ≡ Err m) → Reads part f (Err e) → Reads whole g (Err e)
 handed_on part whole f g (faults.Line n) h r = h n r
-handed_on part whole f g faults.Memory h r = tt
+handed_on part whole f g (faults.Memory _) h r = tt

@@ -98,7 +98,7 @@ users_in bytes = users_of_lines 0 (slice_split (λ c. c == 10) bytes)
 abbrev pub Reads : {A : Type 0} → Result Users ℕ → (A → Users) → Result A UsersFault → Type 0
 Reads told users (Ok x) = told ≡ Ok (users x)
 Reads told users (Err (faults.Line n)) = told ≡ Err n
-Reads told users (Err faults.Memory) = Unit {0}
+Reads told users (Err (faults.Memory _)) = Unit {0}
 
 -- the first line isn't empty, or there is no byte
 abbrev pub starts_full : List ℕ → Type 0

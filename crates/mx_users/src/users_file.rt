@@ -103,7 +103,7 @@ fn read_numbered(
     match read_line(alloc, list, line) {
         Ok(list) => Ok(list),
         Err(LineFault::Broken) => Err(UsersFault::Line(number)),
-        Err(LineFault::Memory) => Err(UsersFault::Memory),
+        Err(LineFault::Memory(refused)) => Err(UsersFault::Memory(refused)),
     }
 }
 

@@ -177,7 +177,7 @@ read_by_kind (Ok (asked.Version text)) k ks one (inl memory) by said = let bad :
 read_by_kind (Ok (asked.Version text)) k ks one (inr among) by said = first_kind k ks one among said ∙ ap by_kind by
 read_by_kind (Err (faults.Usage why)) k ks one (inl memory) by said = absurd (by.2 memory)
 read_by_kind (Err (faults.Usage why)) k ks one (inr among) by said = inl (first_kind k ks one among said ∙ refused_kind k by.0 by.1)
-read_by_kind (Err faults.Memory) k ks one has by said = tt
+read_by_kind (Err (faults.Memory _)) k ks one has by said = tt
 
 pub read_error : (a : App) (words : List Text) (e : Error) (r : Result Asked WordsFault) → a ≡ program → (is_simple_and_free a ≡ true → HasKind (fault_of a words) e)
     → IsAskedBy r (kind_of e) → IsRead r (asked_of words)
@@ -196,4 +196,4 @@ read_run words f w p by = meaning words f p ∙ ap by_said by
 
 pub read_fault : (words : List Text) (f : Found) (e : WordsFault) → IsParse words f → IsRunBy (Err e) (said_of (rows_of f)) → IsRead (Err e) (asked_of words)
 read_fault words f (faults.Usage why) p by = inr (meaning words f p ∙ ap by_said by)
-read_fault words f faults.Memory p by = tt
+read_fault words f (faults.Memory _) p by = tt

@@ -52,7 +52,7 @@ why_of w = w.says.now ++ w.word.now
 abbrev pub IsRunBy : Result Words WordsFault → Result Said Text → Type 0
 IsRunBy (Ok w) said = said ≡ Ok (said_by w)
 IsRunBy (Err (faults.Usage why)) said = said ≡ Err (string_bytes why)
-IsRunBy (Err faults.Memory) said = ⊤
+IsRunBy (Err (faults.Memory _)) said = ⊤
 
 -- what is asked where there are no matches, by the kind of the error
 abbrev pub IsAskedBy : Result Asked WordsFault → ErrorKind → Type 0
@@ -60,4 +60,4 @@ IsAskedBy (Ok (asked.Run w)) kind = ⊥
 IsAskedBy (Ok (asked.Help text)) kind = kind ≡ kinds.DisplayHelp
 IsAskedBy (Ok (asked.Version text)) kind = kind ≡ kinds.DisplayVersion
 IsAskedBy (Err (faults.Usage why)) kind = (kind ≡ kinds.DisplayHelp → ⊥) × (kind ≡ kinds.DisplayVersion → ⊥) × (kind ≡ kinds.OutOfMemory → ⊥)
-IsAskedBy (Err faults.Memory) kind = ⊤
+IsAskedBy (Err (faults.Memory _)) kind = ⊤

@@ -109,7 +109,7 @@ IsRead (Ok (asked.Run w)) m = m ≡ Says (said_by w)
 IsRead (Ok (asked.Help text)) m = m ≡ Help
 IsRead (Ok (asked.Version text)) m = m ≡ Version
 IsRead (Err (faults.Usage why)) m = (m ≡ Refused) ⊎ (m ≡ Wrong (string_bytes why))
-IsRead (Err faults.Memory) m = ⊤
+IsRead (Err (faults.Memory _)) m = ⊤
 
 -- the numbers of a run lie in the bounds of their options
 pub record AreWithin (w : Words) : Type 0 where

@@ -77,7 +77,7 @@ fn asked_by(alloc: Global, error: &Error) -> Result<Asked, WordsFault>
     match error.kind() {
         ErrorKind::DisplayHelp => Ok(Asked::Help(error.to_string(alloc)?)),
         ErrorKind::DisplayVersion => Ok(Asked::Version(error.to_string(alloc)?)),
-        ErrorKind::OutOfMemory => Err(WordsFault::Memory),
+        ErrorKind::OutOfMemory => Err(WordsFault::Memory(AllocError)),
         _ => Err(WordsFault::Usage(first_part(alloc, error)?)),
     }
 }

@@ -43,16 +43,16 @@ pub enum WordsFault {
     /// stands in it as it is, also a line's end.
     Usage(String),
     /// Want of memory.
-    Memory,
+    Memory(AllocError),
 }
 
 impl From<AllocError> for WordsFault {
     ghost use Rattle.std.specs.Prelude.{◌≡◌};
     ghost use Rattle.mx_words.specs.declared.words.WordsFault.TheVariants as faults;
 
-    ghost from_gives = { λ _ e. e ≡ faults.Memory };
+    ghost from_gives = { λ m e. e ≡ faults.Memory m };
 
-    fn from(_refused: AllocError) -> WordsFault {
-        WordsFault::Memory
+    fn from(refused: AllocError) -> WordsFault {
+        WordsFault::Memory(refused)
     }
 }

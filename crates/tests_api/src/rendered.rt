@@ -6,7 +6,7 @@ use mx_ids::{EventId, RoomId, Seq, SyncToken, user_id};
 use mx_json::Json;
 use mx_render::render;
 use mx_sync::Reply;
-use std::alloc::Global;
+use std::alloc::{AllocError, Global};
 use std::process::Abort;
 
 /// Whether an answer has this status, and this text at a key of its object.
@@ -48,6 +48,15 @@ fn a_refusal_has_a_status_and_a_text(rt: HostRuntime) {
     );
     assert!(&rt; refused(&rt, rt.alloc(), Refusal::State(4), 400, "refused by rule 4"));
     assert!(&rt; refused(&rt, rt.alloc(), Refusal::Full(9), 500, "full at 9"));
+    assert!(&rt;
+        refused(
+            &rt,
+            rt.alloc(),
+            Refusal::Lost,
+            500,
+            "the journal has failed"
+        )
+    );
 }
 
 #[test]
@@ -60,7 +69,16 @@ fn an_answer_names_what_was_made(rt: HostRuntime) {
     assert!(&rt; has(&rt, rt.alloc(), room, 200, "room_id", "!1-2:example.org"));
     assert!(&rt; has(&rt, rt.alloc(), named, 200, "device_id", "PHONE"));
     assert!(&rt; has(&rt, rt.alloc(), Said::Done, 200, "event_id", "none"));
-    assert!(&rt; has(&rt, rt.alloc(), Said::NoMemory, 503, "error", "fixed"));
+    assert!(&rt;
+        has(
+            &rt,
+            rt.alloc(),
+            Said::NoMemory(AllocError.into()),
+            503,
+            "error",
+            "fixed"
+        )
+    );
 }
 
 /// The reply at the token `s0_0_1_0_0`, with one type of account data.

@@ -37,6 +37,8 @@ fn the_first_refusal_is_told_in_order(rt: HostRuntime) {
         ["PUT", "/rooms/r/send/a/t", "secret", "", [400, "M_NOT_JSON", "not JSON"]],
         ["PUT", "/rooms/r/state/a", "secret", "1.5", [400, "M_BAD_JSON", "bad JSON: fraction"]],
         ["PUT", "/rooms/r/redact/e/t", "secret", "9007199254740992", [400, "M_BAD_JSON", "bad JSON: integer out of range"]],
+        ["PUT", "/rooms/r/state/a/k", "secret", "[[[[[[[[[[[[[[[[[[[[[[[[[[[[[[[[[[[[[[[[[[[[[[[[[[[[[[[[[[[[[[[[[[[[[[[[[[[[[[[[[[[[[[[[[[[[[[[[[[[[[]]]]]]]]]]]]]]]]]]]]]]]]]]]]]]]]]]]]]]]]]]]]]]]]]]]]]]]]]]]]]]]]]]]]]]]]]]]]]]]]]]]]]]]]]]]]]]]]]]]]]", [400, "M_BAD_JSON", "bad JSON: nested too deep"]],
+        ["PUT", "/rooms/r/state/a/k", "secret", "[[[[[[[[[[[[[[[[[[[[[[[[[[[[[[[[[[[[[[[[[[[[[[[[[[[[[[[[[[[[[[[[[[[[[[[[[[[[[[[[[[[[[[[[[[[[[[[[[[[[]]]]]]]]]]]]]]]]]]]]]]]]]]]]]]]]]]]]]]]]]]]]]]]]]]]]]]]]]]]]]]]]]]]]]]]]]]]]]]]]]]]]]]]]]]]]]]]]]]]]", [400, "M_BAD_JSON", "bad JSON: body"]],
         ["PUT", "/rooms/r/state/a/k", "secret", "[]", [400, "M_BAD_JSON", "bad JSON: body"]],
         ["POST", "/createRoom", "secret", "[]", [400, "M_BAD_JSON", "bad JSON: body"]],
         ["POST", "/createRoom", "secret", "{\"invite\":1,\"initial_state\":1}", [400, "M_BAD_JSON", "bad JSON: initial_state"]],

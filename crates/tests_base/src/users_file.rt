@@ -11,7 +11,7 @@ fn line(alloc: Global, file: &str) -> u64 {
     match read_users(alloc, file.as_bytes()) {
         Ok(_) => 0,
         Err(UsersFault::Line(line)) => line,
-        Err(UsersFault::Memory) => u64::MAX,
+        Err(UsersFault::Memory(_)) => u64::MAX,
     }
 }
 

@@ -118,7 +118,7 @@ fn is_read(alloc: Global, line: &str) -> Result<bool, AllocError> {
         Ok(Asked::Help(text)) => Ok(told == "help" && text.as_str() == HELP),
         Ok(Asked::Version(text)) => Ok(told == "version" && text.as_str() == "mxsync 0.1.0\n"),
         Err(WordsFault::Usage(why)) => Ok(told.strip_prefix('!') == Some(why.as_str())),
-        Err(WordsFault::Memory) => Err(AllocError),
+        Err(WordsFault::Memory(refused)) => Err(refused),
     }
 }
 

@@ -59,7 +59,7 @@ fn outcome(answer: &Result<Admitted, RoomFault>) -> i64 {
         Err(RoomFault::TooLarge) => 2,
         Err(RoomFault::NoTarget) => 3,
         Err(RoomFault::Denied(rule)) => 100 + i64::from(*rule),
-        Err(RoomFault::Memory) => 4,
+        Err(RoomFault::Memory(_)) => 4,
     }
 }
 

@@ -16,7 +16,7 @@ fn refusal_is(fault: Option<FilterFault>, path: &str) -> bool {
     match fault {
         Some(FilterFault::Shape(found)) => found.as_str() == path,
         Some(FilterFault::Format) => path == "format",
-        Some(FilterFault::Memory) => false,
+        Some(FilterFault::Memory(_)) => false,
         None => path == "",
     }
 }

@@ -16,7 +16,7 @@ fn name_of(answer: Result<(), RuleFault>) -> &'static str {
         Err(RuleFault::BadAction) => "action",
         Err(RuleFault::NoNeighbour(Side::Before)) => "before",
         Err(RuleFault::NoNeighbour(Side::After)) => "after",
-        Err(RuleFault::Memory) => "memory",
+        Err(RuleFault::Memory(_)) => "memory",
     }
 }
 
