@@ -45,6 +45,6 @@ pub(crate) fn create_refusal(fault: CreateFault) -> Refusal
         CreateFault::TooMany => Refusal::TooMany,
         CreateFault::TooLarge => Refusal::TooLarge,
         CreateFault::State(rule) => Refusal::State(rule),
-        CreateFault::NoUser | CreateFault::Memory => Refusal::NotFound,
+        CreateFault::NoUser | CreateFault::Memory(_) => Refusal::NotFound,
     }
 }

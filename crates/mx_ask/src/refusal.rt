@@ -34,4 +34,6 @@ pub enum Refusal {
     NoNeighbour(Side),
     /// The stream is full: how many positions were drawn.
     Full(u64),
+    /// What the stores are kept by has failed: nothing more is stored.
+    Lost,
 }

@@ -2,7 +2,7 @@
 
 use crate::refusal::Refusal;
 use mx_event::Shown;
-use mx_ids::{EventId, RoomId, Seq, Text, UserId};
+use mx_ids::{EventId, Memory, RoomId, Seq, Text, UserId};
 use mx_json::Json;
 use mx_pager::Page;
 use mx_sync::Reply;
@@ -36,5 +36,5 @@ pub enum Said {
     /// The id of a filter that was stored.
     Filter(u64),
     /// That the allocator refused.
-    NoMemory,
+    NoMemory(Memory),
 }

@@ -15,7 +15,7 @@ use atomic_table::{Refused, Table};
 use mx_core::Placed;
 use mx_ids::{Memory, Seq};
 use mx_lanes::Book;
-use std::alloc::Global;
+use std::alloc::{AllocError, Global};
 use std::sync::Mutex;
 
 /// A stream of 1 to 16 writers of which no block is drawn once `stop` positions were; with it the pens in the order
@@ -75,7 +75,7 @@ fn open<I: Placed + Drop>(
             let door = Mutex::new(());
             Ok((Stream { table, stop, door }, seat))
         }
-        Err(Refused { slots: _ }) => Err(Memory),
+        Err(Refused { slots: _ }) => Err(AllocError.into()),
     }
 }
 

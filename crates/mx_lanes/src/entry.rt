@@ -6,7 +6,7 @@ ghost use Rattle.mx_core.specs.declared.history.Stored.{Stored};
 use crate::shared::Shared;
 use crate::shelf::Shelf;
 use mx_ids::{Memory, Seq};
-use std::alloc::{AllocFailed, Global};
+use std::alloc::Global;
 use std::marker::Model;
 
 /// One store of a book. Its items stand in the list that it was made of, until they move, each without a copy, to places
@@ -86,9 +86,10 @@ fn share<I: Drop>(
     'items: while let Some(item) = rest.pop() {
         match Shared::new(alloc, item) {
             Ok(item) => shared.push_reserved(item),
-            Err(AllocFailed { value }) => {
+            Err(failed) => {
+                let (value, refused) = Memory::with_value(failed);
                 rest.push_reserved(value);
-                return Err(Memory);
+                return Err(refused);
             }
         }
     }

@@ -20,6 +20,7 @@ status_of refusal.BadCondition = 400
 status_of refusal.BadAction = 400
 status_of (refusal.NoNeighbour neighbour) = 400
 status_of (refusal.Full next) = 500
+status_of refusal.Lost = 500
 
 abbrev pub code_of : Refusal → List ℕ
 code_of refusal.NotFound = codes "M_NOT_FOUND"
@@ -36,6 +37,7 @@ code_of refusal.BadCondition = codes "M_BAD_JSON"
 code_of refusal.BadAction = codes "M_BAD_JSON"
 code_of (refusal.NoNeighbour neighbour) = codes "M_INVALID_PARAM"
 code_of (refusal.Full next) = codes "ORG_MXSYNC_FULL"
+code_of refusal.Lost = codes "ORG_MXSYNC_JOURNAL"
 
 -- the parameter that names the rule before or after which a rule is to stand
 abbrev pub neighbour_name : Side → List ℕ
@@ -57,3 +59,4 @@ text_of refusal.BadCondition = codes "bad JSON: conditions"
 text_of refusal.BadAction = codes "bad JSON: actions"
 text_of (refusal.NoNeighbour neighbour) = codes "invalid parameter: " ++ neighbour_name neighbour
 text_of (refusal.Full next) = codes "full at " ++ decimal next
+text_of refusal.Lost = codes "the journal has failed"

@@ -30,7 +30,7 @@ said_status (said.Event event) = 200
 said_status (said.Paged page) = 200
 said_status (said.Synced reply) = 200
 said_status (said.Filter id) = 200
-said_status said.NoMemory = 503
+said_status (said.NoMemory _) = 503
 
 -- an object of one member
 abbrev pub single : List ℕ → Json → Json
@@ -81,4 +81,4 @@ said_text server device (said.Event event) = json_text (client_form server true 
 said_text server device (said.Paged page) = json_text (page_form server device page)
 said_text server device (said.Synced reply) = json_text (reply_form server device reply)
 said_text server device (said.Filter id) = json_text (filter_json id)
-said_text server device said.NoMemory = no_memory_text
+said_text server device (said.NoMemory _) = no_memory_text

@@ -16,7 +16,7 @@ pub(crate) fn status_of(refusal: Refusal) -> u16
         Refusal::NotFound => 404,
         Refusal::TooLarge => 413,
         Refusal::Forbidden | Refusal::Denied(_) => 403,
-        Refusal::Full(_) => 500,
+        Refusal::Full(_) | Refusal::Lost => 500,
         Refusal::TokenAhead { .. }
         | Refusal::Version
         | Refusal::Preset
@@ -46,6 +46,7 @@ pub(crate) fn code_of(refusal: Refusal) -> &'static str
         Refusal::State(_) => "M_INVALID_ROOM_STATE",
         Refusal::BadCondition | Refusal::BadAction => "M_BAD_JSON",
         Refusal::Full(_) => "ORG_MXSYNC_FULL",
+        Refusal::Lost => "ORG_MXSYNC_JOURNAL",
     }
 }
 
@@ -69,6 +70,7 @@ pub(crate) fn text_of(alloc: Global, refusal: Refusal) -> Result<Text, Memory>
         Refusal::Denied(rule) => denied_text(alloc, rule),
         Refusal::State(rule) => state_text(alloc, rule),
         Refusal::Full(next) => full_text(alloc, next),
+        Refusal::Lost => text(alloc, "the journal has failed"),
     }
 }
 

@@ -48,12 +48,12 @@ pub fn render(alloc: Global, server: &str, device: u32, said: Said) -> Result<An
         Said::Paged(page) => Ok(ok(page_form(alloc, server, device, &page)?)),
         Said::Synced(reply) => Ok(ok(reply_form(alloc, server, device, &reply)?)),
         Said::Filter(id) => Ok(ok(filter_json(alloc, id)?)),
-        Said::NoMemory => Ok(no_memory()),
+        Said::NoMemory(refused) => Ok(no_memory(refused)),
     }
 }
 
 /// The answer for want of memory. Takes no memory.
-pub fn no_memory() -> Answer
+pub fn no_memory(_refused: Memory) -> Answer
     ensures status { result.status ≡ 503 }
     ensures body { body_text result.body ≡ form.no_memory_text }
 {

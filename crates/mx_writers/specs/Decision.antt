@@ -19,7 +19,7 @@ abbrev pub Prepares : {I E : Type 0} → Decision I E → Result (Made I) (Unmad
 Prepares (Stores xs) (Ok (made.Items p)) pending = (p.items ≡ xs) × (pending ≡ Some xs)
 Prepares (Keeps n) (Ok (made.Kept m)) pending = m ≡ n
 Prepares (Refuses e) (Err (unmade.Fault f)) pending = f ≡ e
-Prepares d (Err unmade.Memory) pending = Unit {0}
+Prepares d (Err (unmade.Memory _)) pending = Unit {0}
 Prepares d answer pending = ⊥
 
 -- a block of items may begin at a position after the stores of its writer

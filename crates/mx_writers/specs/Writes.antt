@@ -6,7 +6,7 @@ use Rattle.mx_core.specs.History.{own, Begins}
 use Rattle.mx_front.specs.declared.view.View.{View}
 use Rattle.mx_writers.specs.declared.answers.Written.{Written}
 use Rattle.mx_writers.specs.declared.answers.Refused.{Refused}
-use Rattle.mx_writers.specs.declared.answers.Refused.TheVariants.{Fault, Full, Memory}
+use Rattle.mx_writers.specs.declared.answers.Refused.TheVariants.{Fault, Full, Lost, Memory}
 use Rattle.mx_writers.specs.Decision.{Decision, Placing, store_of, with_store, MayFollow}
 
 -- the items are stored: the own list has one store more, what the pen has seen ends with it, and the front is that of this list
@@ -33,10 +33,16 @@ pub record HasKept {I : Type 0} (n : ℕ) (mine : List (Stored I)) (w : Written)
 abbrev pub WritesBy : {I E : Type 0} → Placing I → Decision I E → ℕ → ℕ → List (Stored I) → Result Written (Refused E) → View I → Type 0
 WritesBy place (Decision.Stores xs) k stop mine (Ok w) v = HasStored place k mine xs w v
 WritesBy place (Decision.Stores xs) k stop mine (Err (Full n m)) v = (stop ≤ n) × (v.read ≡ n) × (m ≡ length mine) × (v.own ≡ mine)
+WritesBy place (Decision.Stores xs) k stop mine (Err (Lost m)) v = (m ≡ length mine) × (v.own ≡ mine)
 WritesBy place (Decision.Keeps n) k stop mine (Ok w) v = HasKept n mine w v
 WritesBy place (Decision.Refuses e) k stop mine (Err (Fault f m)) v = (f ≡ e) × (m ≡ length mine) × (v.own ≡ mine)
-WritesBy place d k stop mine (Err Memory) v = v.own ≡ mine
+WritesBy place d k stop mine (Err (Memory _)) v = v.own ≡ mine
 WritesBy place d k stop mine answer v = ⊥
+
+-- a write is lost only where what its writer keeps its stores by may fail
+abbrev pub MayLose : {E : Type 0} → Bool → Result Written (Refused E) → Type 0
+MayLose loses (Err (Lost m)) = loses ≡ true
+MayLose loses answer = Unit {0}
 
 -- a write in the turn of the writer k, with what its pass has seen before and after: `mine` are the writer's stores when its turn began,
 -- and `pen` is what its pen knows when the turn ends

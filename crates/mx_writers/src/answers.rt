@@ -23,17 +23,19 @@ pub enum Refused<E> {
     /// The stream is full: the number of positions that were drawn, at least its stop, and the number of own stores by
     /// which it was decided.
     Full(u64, u64),
+    /// What the writer keeps its stores by has failed, in this write or in an earlier one; the number of own stores then.
+    Lost(u64),
     /// An allocation was refused.
-    Memory,
+    Memory(Memory),
 }
 
 impl<E> From<Memory> for Refused<E> {
     ghost use Rattle.std.specs.Prelude.{◌≡◌};
     ghost use Rattle.mx_writers.specs.declared.answers.Refused.TheVariants as refusals;
 
-    ghost from_gives = { λ _ e. e ≡ refusals.Memory };
+    ghost from_gives = { λ m e. e ≡ refusals.Memory m };
 
-    fn from(_refused: Memory) -> Refused<E> {
-        Refused::Memory
+    fn from(refused: Memory) -> Refused<E> {
+        Refused::Memory(refused)
     }
 }

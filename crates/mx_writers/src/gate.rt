@@ -8,7 +8,7 @@ pub trait Gate {
     // Whether the gate was told that a writer drew a block that begins at a position.
     ghost told: { Self → ℕ → ℕ → Bool };
 
-    /// The writer of the shard has drawn a block that begins at `first`, and stores it once this returns.
+    /// The writer of the shard has drawn a block that begins at `first`, and stores it once this returns: it is kept already.
     fn drawn(&self, shard: u8, first: u64)
         ensures { told self.now shard first ≡ true };
 }

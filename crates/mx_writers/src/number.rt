@@ -4,10 +4,11 @@ ghost use Rattle.std.specs.Prelude.{◌≡◌, ◌<◌, [], ◌∷◌, Some, IfO
 ghost use Rattle.std.specs.Option.{ForSome};
 ghost use Rattle.std.specs.Vec.{vec_len, vec_capacity};
 
-use crate::folds::{Folds, Made, Unmade};
+use crate::folds::{Folds, Lost, Made, Unmade};
 use mx_core::{Placed, Prepared, Stored};
 use mx_ids::{Copied, Memory, Seq};
 use std::alloc::Global;
+use std::sync::Wait;
 
 /// A number in a stream. It doesn't carry its position.
 #[derive(Debug, Drop, PartialEq, Eq)]
@@ -66,6 +67,7 @@ impl Folds for Numbers {
 
     type Fault = Zero;
 
+    ghost use Rattle.std.specs.Prelude.{false};
     ghost use Rattle.mx_writers.specs.Decided.{decided, are_lawful};
 
     ghost writer = { λ n. n.writer };
@@ -76,6 +78,8 @@ impl Folds for Numbers {
 
     ghost decides = { λ writer mine draft. decided draft };
 
+    ghost loses = { false };
+
     fn prepare(&mut self, alloc: Global, draft: u64) -> Result<Made<Number>, Unmade<Zero>> {
         if draft == 0 {
             return Err(Unmade::Fault(Zero));
@@ -84,7 +88,12 @@ impl Folds for Numbers {
     }
 
     #[tactic(auto, using(crate::proofs::Unplaced::placed_same))]
-    fn commit(&mut self, first: u64, _prepared: &Prepared<Number>) {
+    fn commit<R: Wait>(
+        &mut self,
+        _rt: &R,
+        first: u64,
+        _prepared: &Prepared<Number>,
+    ) -> Result<(), Lost> {
         if let Some(items) = self.pending.take() {
             self.stores.push_reserved(Stored {
                 writer: self.writer,
@@ -92,6 +101,7 @@ impl Folds for Numbers {
                 items,
             });
         }
+        Ok(())
     }
 
     ghost lawful = { are_lawful };

@@ -1,6 +1,6 @@
 //! A writer's shard, and the shards of a stream's writers.
 
-ghost use Rattle.std.specs.Prelude.{◌≡◌, ◌*◌, None, length};
+ghost use Rattle.std.specs.Prelude.{◌≡◌, ◌*◌, None, false, length};
 ghost use Rattle.mx_front.specs.Shown.{known, number, place_of, writers_of};
 
 use crate::board::Locks;
@@ -16,7 +16,10 @@ pub struct Shard<F: Folds> {
     pub(crate) folds: F,
     pub(crate) pen: Pen<F::Item>,
     ghost numbered: { number pen ≡ writer },
-    ghost rests: { (known pen).block ≡ None },
+    /// Whether the writer's pen holds a block that wasn't kept. It stores nothing any more.
+    pub(crate) lost: bool,
+    ghost rests: { lost ≡ false → (known pen).block ≡ None },
+    ghost sure: { F.loses ≡ false → lost ≡ false },
     ghost writes: { F.writer folds ≡ writer },
     ghost folded: { F.own folds ≡ (known pen).own },
     ghost counted: { lane ≡ length (known pen).own },

@@ -12,7 +12,7 @@ use crate::shards::{Shard, Writers};
 use atomic_table::{Refused, Table};
 use mx_front::{Pen, Stream};
 use mx_ids::{Memory, Seq};
-use std::alloc::Global;
+use std::alloc::{AllocError, Global};
 use std::sync::Mutex;
 
 /// The shard of a writer: its pen, which holds no block, its value, which is the fold of the pen's own list, and how
@@ -28,6 +28,7 @@ pub fn shard<F: Folds>(writer: u8, lane: u64, folds: F, pen: Pen<F::Item>) -> Sh
         lane,
         folds,
         pen,
+        lost: false,
     }
 }
 
@@ -59,7 +60,7 @@ pub fn writers<F: Folds>(
             table,
             doors,
         }),
-        Err(Refused { slots: _ }) => Err(Memory),
+        Err(Refused { slots: _ }) => Err(AllocError.into()),
     }
 }
 

@@ -2,7 +2,7 @@
 
 ghost use Rattle.std.specs.Prelude.{◌≡◌, ◌<◌};
 ghost use Rattle.mx_front.specs.Shown.{place_of, stop_of, writers_of, reads, place_of_pass};
-ghost use Rattle.mx_writers.specs.Writes.{WasTold, WritesSeen};
+ghost use Rattle.mx_writers.specs.Writes.{MayLose, WasTold, WritesSeen};
 
 use crate::answers::{Refused, Written};
 use crate::folds::Folds;
@@ -32,6 +32,7 @@ impl<F: Folds> Writers<F> {
         requires stream { place_of_pass pass.old ≡ place_of self.now.stream }
         ensures stream { place_of_pass pass.new ≡ place_of_pass pass.old }
         ensures wrote { WritesSeen F.Item.placed F.decides shard (stop_of self.now.stream) draft result (reads pass.old) (reads pass.new) }
+        ensures loses { MayLose F.loses result }
         ensures told { WasTold (G.told gate.now) shard result }
     {
         let door = self.doors[usize::from(shard)].lock(rt);

@@ -4,10 +4,10 @@ ghost use Rattle.std.specs.Prelude.{◌≡◌, Some, None};
 ghost use Rattle.mx_core.specs.History.{Begins, IsLane};
 ghost use Rattle.mx_front.specs.Shown.{place_of, stop_of, known, place_of_pen, reads, place_of_pass};
 ghost use Rattle.mx_writers.specs.Decision.{Stores, CanBeStored};
-ghost use Rattle.mx_writers.specs.Writes.{WritesBy, WritesSeen, told_by};
+ghost use Rattle.mx_writers.specs.Writes.{MayLose, WritesBy, WritesSeen, told_by};
 
 use crate::answers::{Refused, Written};
-use crate::folds::{Folds, Made, Unmade};
+use crate::folds::{Folds, Lost, Made, Unmade};
 use crate::gate::{Gate, Watch};
 use crate::shards::Shard;
 use mx_core::{Prepared, placed_at};
@@ -16,12 +16,13 @@ use std::alloc::Global;
 use std::sync::Wait;
 
 /// Decides on a draft by the shard's own list as it stands, and stores the items where it decides on some. All memory
-/// is taken before the draw. Between the draw and the store the gate is told the writer and the first position, and it
-/// is told nothing where the answer isn't a store. Waits for its turns at the stream, and never between draw and store
-/// for another writer's store. `Fault` exactly where the decision is that fault; `Full`
-/// only where the decision is items and the number of positions that were drawn was read at the stream's stop or past
-/// it by this call; `Memory` where the allocator refuses what the decision or the space in the stream needs. On each
-/// refusal the own list is as before.
+/// is taken before the draw. Between the draw and the store the value's `commit` is called, and the gate is told the writer
+/// and the first position; the gate is told nothing where the answer isn't a store. Waits for its turns at the stream, and
+/// between draw and store only in `commit`. `Fault` exactly where the decision is that fault; `Full` only where the
+/// decision is items and the number of positions that were drawn was read at the stream's stop or past it by this call;
+/// `Lost` only where the decision is items and what the value keeps its stores by has failed, in this write or an earlier
+/// one, so never where it can't fail; `Memory` where the allocator refuses what the decision or the space in the stream
+/// needs. On each refusal the own list is as before.
 pub fn write_in<F: Folds, G: Gate, R: Wait>(
     rt: &R,
     alloc: Global,
@@ -36,6 +37,7 @@ pub fn write_in<F: Folds, G: Gate, R: Wait>(
     ensures seen { Begins (known shard.old.pen).seen (known shard.new.pen).seen }
     ensures wrote { WritesBy F.Item.placed (F.decides shard.old.writer (known shard.old.pen).own draft) shard.old.writer
         (stop_of stream.now) (known shard.old.pen).own result (known shard.new.pen) }
+    ensures loses { MayLose F.loses result }
     ensures told { (watch.new.gate ≡ watch.old.gate) × (watch.new.told ≡ told_by shard.old.writer result) }
 {
     let lane = shard.lane;
@@ -48,7 +50,7 @@ pub fn write_in<F: Folds, G: Gate, R: Wait>(
             front: 0,
         }),
         Err(Unmade::Fault(fault)) => Err(Refused::Fault(fault, lane)),
-        Err(Unmade::Memory) => Err(Refused::Memory),
+        Err(Unmade::Memory(refused)) => Err(Refused::Memory(refused)),
     }
 }
 
@@ -69,9 +71,13 @@ fn store_block<F: Folds, G: Gate, R: Wait>(
     ensures seen { Begins (known shard.old.pen).seen (known shard.new.pen).seen }
     ensures wrote { WritesBy F.Item.placed (Stores prepared.items) shard.old.writer
         (stop_of stream.now) (known shard.old.pen).own result (known shard.new.pen) }
+    ensures loses { MayLose F.loses result }
     ensures told { (watch.new.gate ≡ watch.old.gate) × (watch.new.told ≡ told_by shard.old.writer result) }
 {
     let lane = shard.lane;
+    if shard.lost {
+        return Err(Refused::Lost(lane));
+    }
     let count = prepared.items.len() as u16;
     stream.reserve(rt, &mut shard.pen, count)?;
     let drawn = match stream.draw(&mut shard.pen, count) {
@@ -79,8 +85,11 @@ fn store_block<F: Folds, G: Gate, R: Wait>(
         Err(Full { next }) => return Err(Refused::Full(next, lane)),
     };
     let first = drawn.first;
+    if let Err(Lost) = shard.folds.commit(rt, first, &prepared) {
+        shard.lost = true;
+        return Err(Refused::Lost(lane));
+    }
     watch.drawn(shard.writer, first);
-    shard.folds.commit(first, &prepared);
     let Prepared { items } = prepared;
     let front = stream.finish(rt, &mut shard.pen, drawn, placed_at(items, first));
     shard.lane += 1;
@@ -107,6 +116,7 @@ pub(crate) fn write_noted<F: Folds, G: Gate, R: Wait>(
     ensures stream { (place_of_pen shard.new.pen ≡ place_of_pen shard.old.pen) × (shard.new.writer ≡ shard.old.writer)
         × (place_of_pass pass.new ≡ place_of_pass pass.old) }
     ensures wrote { WritesSeen F.Item.placed F.decides shard.old.writer (stop_of stream.now) draft result (reads pass.old) (reads pass.new) }
+    ensures loses { MayLose F.loses result }
     ensures told { (watch.new.gate ≡ watch.old.gate) × (watch.new.told ≡ told_by shard.old.writer result) }
 {
     stream.note(&mut shard.pen, pass).unwrap();
