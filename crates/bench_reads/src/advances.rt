@@ -5,7 +5,7 @@ ghost use Rattle.mx_core.specs.Covered.{covered};
 ghost use Rattle.bench_reads.specs.InPlace.{Knows};
 
 use crate::stock::Stock;
-use mx_ids::Memory;
+use crate::unmeasured::Unmeasured;
 use mx_outside::Clock;
 use mx_snapshot::Snapshot;
 use std::alloc::Global;
@@ -14,13 +14,13 @@ use std::alloc::Global;
 const STEP: u64 = 10;
 
 /// The milliseconds that it takes to go on so often to a front that is ten later, beginning with the front `items`. All
-/// events are stored beforehand. `Memory` where the allocator refuses what it needs, and where these are over 1,000,000.
+/// events are stored beforehand. `Other` where these are over 1,000,000.
 pub fn measure_advances<C: Clock>(
     alloc: Global,
     clock: &mut C,
     items: u64,
     repeats: u32,
-) -> Result<u64, Memory> {
+) -> Result<u64, Unmeasured> {
     let mut stock = Stock::new(alloc)?;
     stock.grow(alloc, items.saturating_add(STEP * u64::from(repeats)))?;
     let mut known = Snapshot::new(alloc);
@@ -36,7 +36,7 @@ fn go_on_all(
     stock: &mut Stock,
     known: &mut Snapshot,
     repeats: u32,
-) -> Result<(), Memory>
+) -> Result<(), Unmeasured>
     requires { Knows (covered stock.old.book.history) known.old }
 {
     'repeats: for _repeat in 0..repeats {
@@ -46,13 +46,18 @@ fn go_on_all(
     Ok(())
 }
 
-/// Takes the events up to a front, and goes on to it. `Memory` also where fewer are stored.
-fn go_on(alloc: Global, stock: &mut Stock, known: &mut Snapshot, front: u64) -> Result<(), Memory>
+/// Takes the events up to a front, and goes on to it. `Other` where fewer are stored.
+fn go_on(
+    alloc: Global,
+    stock: &mut Stock,
+    known: &mut Snapshot,
+    front: u64,
+) -> Result<(), Unmeasured>
     requires knows { Knows (covered stock.old.book.history) known.old }
     requires later { length known.old.events ≤ front }
     ensures kept { stock.new.book.history ≡ stock.old.book.history }
     ensures knows { OnOk result (Knows (covered stock.new.book.history) known.new) }
 {
     let parts = stock.up_to(alloc, front)?;
-    known.events.advance(alloc, parts)
+    Ok(known.events.advance(alloc, parts)?)
 }

@@ -5,6 +5,7 @@ ghost use Rattle.std.specs.Prelude.{◌≡◌, ◌+◌, true, length, IfOk, OnOk
 ghost use Rattle.mx_window.specs.Windows.{stand_from};
 ghost use Rattle.mx_event.specs.Shown.{position_of};
 
+use crate::unmeasured::Unmeasured;
 use mx_event::Event;
 use mx_event::event_types::{MEMBER, REDACTION, TOPIC};
 use mx_ids::{EventId, Memory, RoomId, Text, UserId, user_id};
@@ -58,8 +59,8 @@ fn user_text(alloc: Global, number: u64) -> Result<Text, Memory> {
 }
 
 /// The user `@uN:b` of a number below ten.
-pub fn user(alloc: Global, number: u64) -> Result<UserId, Memory> {
-    user_id(user_text(alloc, number % COUNT)?).ok_or(Memory)
+pub fn user(alloc: Global, number: u64) -> Result<UserId, Unmeasured> {
+    user_id(user_text(alloc, number % COUNT)?).ok_or(Unmeasured::Other)
 }
 
 /// The type of an event.
@@ -81,7 +82,7 @@ fn key(alloc: Global, row: Row) -> Result<Option<Text>, Memory> {
     }
 }
 
-fn content(alloc: Global, row: Row) -> Result<Json, Memory> {
+fn content(alloc: Global, row: Row) -> Result<Json, Unmeasured> {
     match row {
         Row::Join(_) => json(alloc, "{\"membership\":\"join\"}"),
         Row::Topic => json(alloc, "{\"topic\":\"t\"}"),
@@ -91,18 +92,18 @@ fn content(alloc: Global, row: Row) -> Result<Json, Memory> {
 }
 
 /// The content of a redaction of the event at a position.
-fn redaction(alloc: Global, target: u64) -> Result<Json, Memory> {
+fn redaction(alloc: Global, target: u64) -> Result<Json, Unmeasured> {
     let content = format!(in alloc; "{{\"redacts\":\"${target}:b\"}}")?;
     json(alloc, content.as_str())
 }
 
-/// What a text is read as. `Memory` also where it is none.
-fn json(alloc: Global, s: &str) -> Result<Json, Memory> {
-    read(alloc, s.as_bytes()).map_err(|_| Memory)
+/// What a text is read as. `Other` where it is none.
+fn json(alloc: Global, s: &str) -> Result<Json, Unmeasured> {
+    Ok(read(alloc, s.as_bytes())?)
 }
 
 /// The event at a position.
-pub fn event(alloc: Global, position: u64) -> Result<Event, Memory>
+pub fn event(alloc: Global, position: u64) -> Result<Event, Unmeasured>
     ensures { IfOk result (λ e. position_of e ≡ position) }
 {
     let row = row_at(position);
@@ -120,7 +121,7 @@ pub fn event(alloc: Global, position: u64) -> Result<Event, Memory>
 }
 
 /// The events at the positions from 1 to `count`.
-pub fn events(alloc: Global, count: u64) -> Result<Vec<Event>, Memory>
+pub fn events(alloc: Global, count: u64) -> Result<Vec<Event>, Unmeasured>
     ensures { IfOk result (λ made. stand_from position_of 1 made.items ≡ true) }
 {
     let mut made = Vec::new(alloc);
@@ -131,7 +132,7 @@ pub fn events(alloc: Global, count: u64) -> Result<Vec<Event>, Memory>
 }
 
 /// Puts the next event at the end.
-fn push_next(alloc: Global, events: &mut Vec<Event>) -> Result<(), Memory>
+fn push_next(alloc: Global, events: &mut Vec<Event>) -> Result<(), Unmeasured>
     requires { stand_from position_of 1 events.old.items ≡ true }
     ensures { OnOk result (stand_from position_of 1 events.new.items ≡ true) }
 {

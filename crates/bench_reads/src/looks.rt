@@ -2,6 +2,7 @@
 
 use crate::history::{events, room};
 use crate::others::{accounts, receipts};
+use crate::unmeasured::Unmeasured;
 use crate::words::Look;
 use mx_event::event_types::TOPIC;
 use mx_ids::Memory;
@@ -17,24 +18,27 @@ const BEHIND: u64 = 100;
 /// The user whose rooms and account data are looked up.
 const USER: &str = "@u3:b";
 
-/// The milliseconds that so many look-ups take in streams of so many items. `Memory` where the allocator refuses what
-/// they need, and where they find nothing.
+/// The milliseconds that so many look-ups take in streams of so many items. `Other` where they find nothing.
 pub fn measure_looks<C: Clock>(
     alloc: Global,
     clock: &mut C,
     look: Look,
     items: u64,
     repeats: u32,
-) -> Result<u64, Memory> {
+) -> Result<u64, Unmeasured> {
     let known = known(alloc, items)?;
     let start = clock.now();
     let found = look_up_all(alloc, &known, look, repeats)?;
     let took = clock.now().saturating_sub(start);
-    if found == 0 { Err(Memory) } else { Ok(took) }
+    if found == 0 {
+        Err(Unmeasured::Other)
+    } else {
+        Ok(took)
+    }
 }
 
 /// A snapshot of so many events, receipts and entries of account data.
-fn known(alloc: Global, items: u64) -> Result<Snapshot, Memory> {
+fn known(alloc: Global, items: u64) -> Result<Snapshot, Unmeasured> {
     let events = events(alloc, items)?;
     let receipts = receipts(alloc, items)?;
     let accounts = accounts(alloc, items)?;

@@ -11,12 +11,13 @@ mod history;
 mod looks;
 mod others;
 mod stock;
+mod unmeasured;
 mod words;
 
 use crate::advances::measure_advances;
 use crate::looks::measure_looks;
+use crate::unmeasured::Unmeasured;
 use crate::words::{Read, Wanted, read_words};
-use mx_ids::Memory;
 use mx_outside::{Clock, HostClock, Sink, StdOut};
 use std::alloc::Global;
 use std::process::ExitCode;
@@ -40,7 +41,7 @@ fn main(rt: HostRuntime) -> ExitCode {
 }
 
 /// The milliseconds that are asked for.
-fn measure<C: Clock>(alloc: Global, clock: &mut C, wanted: Wanted) -> Result<u64, Memory> {
+fn measure<C: Clock>(alloc: Global, clock: &mut C, wanted: Wanted) -> Result<u64, Unmeasured> {
     let Wanted {
         read,
         items,

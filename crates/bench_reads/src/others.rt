@@ -6,14 +6,15 @@ ghost use Rattle.mx_account.specs.Values as account;
 ghost use Rattle.mx_receipt.specs.Receipts as receipt;
 
 use crate::history::{room, text, user};
+use crate::unmeasured::Unmeasured;
 use mx_account::Entry;
-use mx_ids::{EventId, Memory};
+use mx_ids::EventId;
 use mx_json::Json;
 use mx_receipt::{Receipt, ReceiptKind};
 use std::alloc::Global;
 
 /// The receipt at a position.
-fn receipt(alloc: Global, position: u64) -> Result<Receipt, Memory>
+fn receipt(alloc: Global, position: u64) -> Result<Receipt, Unmeasured>
     ensures { IfOk result (λ made. receipt.position_of made ≡ position) }
 {
     Ok(Receipt {
@@ -27,7 +28,7 @@ fn receipt(alloc: Global, position: u64) -> Result<Receipt, Memory>
 }
 
 /// Puts the next receipt at the end.
-fn push_receipt(alloc: Global, made: &mut Vec<Receipt>) -> Result<(), Memory>
+fn push_receipt(alloc: Global, made: &mut Vec<Receipt>) -> Result<(), Unmeasured>
     requires { receipt.AreInPlace made.old.items }
     ensures { OnOk result (receipt.AreInPlace made.new.items) }
 {
@@ -37,7 +38,7 @@ fn push_receipt(alloc: Global, made: &mut Vec<Receipt>) -> Result<(), Memory>
 }
 
 /// The receipts at the positions from 1 to `count`.
-pub fn receipts(alloc: Global, count: u64) -> Result<Vec<Receipt>, Memory>
+pub fn receipts(alloc: Global, count: u64) -> Result<Vec<Receipt>, Unmeasured>
     ensures { IfOk result (λ made. receipt.AreInPlace made.items) }
 {
     let mut made = Vec::new(alloc);
@@ -48,7 +49,7 @@ pub fn receipts(alloc: Global, count: u64) -> Result<Vec<Receipt>, Memory>
 }
 
 /// The entry at a position.
-fn entry(alloc: Global, position: u64) -> Result<Entry, Memory>
+fn entry(alloc: Global, position: u64) -> Result<Entry, Unmeasured>
     ensures { IfOk result (λ made. entries.position_of made ≡ position) }
 {
     Ok(Entry::Data {
@@ -61,7 +62,7 @@ fn entry(alloc: Global, position: u64) -> Result<Entry, Memory>
 }
 
 /// Puts the next entry at the end.
-fn push_entry(alloc: Global, made: &mut Vec<Entry>) -> Result<(), Memory>
+fn push_entry(alloc: Global, made: &mut Vec<Entry>) -> Result<(), Unmeasured>
     requires { account.AreInPlace made.old.items }
     ensures { OnOk result (account.AreInPlace made.new.items) }
 {
@@ -71,7 +72,7 @@ fn push_entry(alloc: Global, made: &mut Vec<Entry>) -> Result<(), Memory>
 }
 
 /// The account data at the positions from 1 to `count`.
-pub fn accounts(alloc: Global, count: u64) -> Result<Vec<Entry>, Memory>
+pub fn accounts(alloc: Global, count: u64) -> Result<Vec<Entry>, Unmeasured>
     ensures { IfOk result (λ made. account.AreInPlace made.items) }
 {
     let mut made = Vec::new(alloc);

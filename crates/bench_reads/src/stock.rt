@@ -9,6 +9,7 @@ ghost use Rattle.mx_window.specs.Windows.{stand_from};
 ghost use Rattle.bench_reads.specs.InPlace.{in_place};
 
 use crate::history::event;
+use crate::unmeasured::Unmeasured;
 use mx_event::Event;
 use mx_ids::{Memory, Seq};
 use mx_lanes::{Book, Parts};
@@ -34,8 +35,8 @@ impl Stock {
         })
     }
 
-    /// Puts so many events more. `Memory` where the allocator refuses what they need, and where there are 1,000,000.
-    pub fn grow(&mut self, alloc: Global, count: u64) -> Result<(), Memory> {
+    /// Puts so many events more. `Other` where there are 1,000,000.
+    pub fn grow(&mut self, alloc: Global, count: u64) -> Result<(), Unmeasured> {
         'events: for _event in 0..count {
             self.put_next(alloc)?;
         }
@@ -43,10 +44,10 @@ impl Stock {
     }
 
     /// Puts the event at the position after the front.
-    fn put_next(&mut self, alloc: Global) -> Result<(), Memory> {
+    fn put_next(&mut self, alloc: Global) -> Result<(), Unmeasured> {
         let front = self.book.front();
         if front >= MOST {
-            return Err(Memory);
+            return Err(Unmeasured::Other);
         }
         let first = front + 1;
         let mut items = Seq::new(alloc);
@@ -56,15 +57,15 @@ impl Stock {
         Ok(())
     }
 
-    /// The events up to a front. `Memory` also where there are fewer.
-    pub fn up_to(&mut self, alloc: Global, front: u64) -> Result<Parts<Event>, Memory>
+    /// The events up to a front. `Other` where there are fewer.
+    pub fn up_to(&mut self, alloc: Global, front: u64) -> Result<Parts<Event>, Unmeasured>
         ensures items { IfOk result (λ parts. parts.items ≡ take front (covered self.old.book.history)) }
         ensures placed { IfOk result (λ parts. stand_from position_of 1 parts.items ≡ true) }
         ensures kept { self.new.book.history ≡ self.old.book.history }
     {
         if front > self.book.front() {
-            return Err(Memory);
+            return Err(Unmeasured::Other);
         }
-        self.book.up_to(alloc, front)
+        Ok(self.book.up_to(alloc, front)?)
     }
 }

@@ -1,9 +1,12 @@
 //! What a request that reads is told.
 
-ghost use Rattle.std.specs.Prelude.{◌≡◌, ℕ, IfOk};
+ghost use Rattle.std.specs.Prelude.{◌≡◌, ℕ, Bool, Option, IfOk};
 ghost use Rattle.mx_acts.specs.Acts.{asked, kind_in, Tells, whoami_said};
 ghost use Rattle.mx_acts.specs.declared.kind.ActKind.TheVariants as kinds;
 ghost use Rattle.mx_aims.specs.Aims.{site_of};
+ghost use Rattle.mx_ask.specs.declared.ask.Ask.TheVariants as asks;
+ghost use Rattle.mx_ask.specs.declared.ask.FilterAsk.{FilterAsk};
+ghost use Rattle.mx_ids.specs.declared.sync_token.SyncToken.{SyncToken};
 ghost use Rattle.mx_rest.specs.Servers.{AreValid, lists_of};
 
 use crate::pages::page_said;
@@ -14,11 +17,36 @@ use mx_ask::{Ask, Said, Who};
 use mx_ids::{Copied, Memory, Text};
 use mx_room_reads::joined_rooms;
 use mx_snapshot::Snapshot;
+use mx_sync::Known;
 use mx_user_reads::{push_rule, push_rules, rule_actions, rule_enabled, stored_filter};
 use std::alloc::Global;
 
-/// What a request that reads is told, on what the snapshot holds.
+/// What a request that reads is told, on what is known of the streams.
 pub fn read(
+    alloc: Global,
+    site: &Site,
+    known: &mut Known,
+    who: &Who,
+    ask: &Ask,
+) -> Result<Said, Memory>
+    requires valid { AreValid (lists_of known.old) }
+    requires kind { (now : ℕ) → kind_in (asked (site_of site.now) now who.now ask.now) ≡ kinds.Reads }
+    ensures same { known.new ≡ known.old }
+    ensures told { (now : ℕ) → IfOk result (λ said. Tells (asked (site_of site.now) now who.now ask.now) (lists_of known.old) said) }
+{
+    match ask {
+        Ask::Sync {
+            since,
+            filter,
+            full_state,
+            timeout: _,
+        } => sync_said(alloc, known, &who.user, *since, filter, *full_state),
+        _ => read_other(alloc, site, known.as_snapshot(), who, ask),
+    }
+}
+
+/// The same of one that isn't a sync, on what the snapshot holds.
+fn read_other(
     alloc: Global,
     site: &Site,
     snapshot: &Snapshot,
@@ -27,6 +55,7 @@ pub fn read(
 ) -> Result<Said, Memory>
     requires valid { AreValid (lists_of snapshot.now) }
     requires kind { (now : ℕ) → kind_in (asked (site_of site.now) now who.now ask.now) ≡ kinds.Reads }
+    requires other { (since : Option SyncToken) (filter : FilterAsk) (full_state : Bool) (timeout : ℕ) → ask.now ≡ asks.Sync since filter full_state timeout → ⊥ }
     ensures { (now : ℕ) → IfOk result (λ said. Tells (asked (site_of site.now) now who.now ask.now) (lists_of snapshot.now) said) }
 {
     let user = &who.user;
@@ -67,12 +96,6 @@ pub fn read(
             *limit,
             filter,
         ),
-        Ask::Sync {
-            since,
-            filter,
-            full_state,
-            timeout: _,
-        } => sync_said(alloc, snapshot, user, *since, filter, *full_state),
         Ask::GetFilter { id } => stored_filter(alloc, snapshot, user, id),
         Ask::GetAccount { room, kind } => account(alloc, site, snapshot, who, room, kind),
         Ask::Tags { room } => tags(alloc, site, snapshot, user, room),

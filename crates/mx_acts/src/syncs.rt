@@ -9,8 +9,7 @@ ghost use Rattle.mx_user_reads.specs.Filters.{filter_named};
 use mx_ask::{FilterAsk, Refusal, Said};
 use mx_filter::Filter;
 use mx_ids::{Memory, SyncToken, Text, UserId};
-use mx_snapshot::Snapshot;
-use mx_sync::{SyncAsk, SyncFault, reply};
+use mx_sync::{Known, SyncAsk, SyncFault};
 use mx_user_reads::filter_named;
 use std::alloc::Global;
 
@@ -19,36 +18,38 @@ use std::alloc::Global;
 #[tactic(auto, unfolding(crate::specs::Reads::sync_said))]
 pub fn sync_said(
     alloc: Global,
-    snapshot: &Snapshot,
+    known: &mut Known,
     user: &UserId,
     since: Option<SyncToken>,
     filter: &FilterAsk,
     full_state: bool,
 ) -> Result<Said, Memory>
-    requires valid { AreValid (lists_of snapshot.now) }
-    ensures { IfOk result (λ said. said ≡ told.sync_said (lists_of snapshot.now) user.now since filter.now full_state) }
+    requires valid { AreValid (lists_of known.old) }
+    ensures same { known.new ≡ known.old }
+    ensures told { IfOk result (λ said. said ≡ told.sync_said (lists_of known.old) user.now since filter.now full_state) }
 {
     match filter {
-        FilterAsk::Absent => sync_named(alloc, snapshot, user, since, None, full_state),
-        FilterAsk::Stored(id) => sync_named(alloc, snapshot, user, since, Some(id), full_state),
-        FilterAsk::Inline(filter) => sync_told(alloc, snapshot, user, since, filter, full_state),
+        FilterAsk::Absent => sync_named(alloc, known, user, since, None, full_state),
+        FilterAsk::Stored(id) => sync_named(alloc, known, user, since, Some(id), full_state),
+        FilterAsk::Inline(filter) => sync_told(alloc, known, user, since, filter, full_state),
     }
 }
 
 /// What a sync is told that has no filter of its own, but names a stored one, or none.
 fn sync_named(
     alloc: Global,
-    snapshot: &Snapshot,
+    known: &mut Known,
     user: &UserId,
     since: Option<SyncToken>,
     id: Option<&Text>,
     full_state: bool,
 ) -> Result<Said, Memory>
-    requires valid { AreValid (lists_of snapshot.now) }
-    ensures { IfOk result (λ said. said ≡ told.sync_by (lists_of snapshot.now) user.now since full_state (filter_named (lists_of snapshot.now) user.now (option_copied id.entry))) }
+    requires valid { AreValid (lists_of known.old) }
+    ensures same { known.new ≡ known.old }
+    ensures told { IfOk result (λ said. said ≡ told.sync_by (lists_of known.old) user.now since full_state (filter_named (lists_of known.old) user.now (option_copied id.entry))) }
 {
-    match filter_named(alloc, snapshot, user, id)? {
-        Some(filter) => sync_told(alloc, snapshot, user, since, &filter, full_state),
+    match filter_named(alloc, known.as_snapshot(), user, id)? {
+        Some(filter) => sync_told(alloc, known, user, since, &filter, full_state),
         None => Ok(Said::Refused(Refusal::NotFound)),
     }
 }
@@ -56,14 +57,15 @@ fn sync_named(
 /// What a sync by a filter is told.
 fn sync_told(
     alloc: Global,
-    snapshot: &Snapshot,
+    known: &mut Known,
     user: &UserId,
     since: Option<SyncToken>,
     filter: &Filter,
     full_state: bool,
 ) -> Result<Said, Memory>
-    requires valid { AreValid (lists_of snapshot.now) }
-    ensures { IfOk result (λ said. said ≡ told.sync_told (lists_of snapshot.now) user.now (told.sync_ask since full_state filter.now)) }
+    requires valid { AreValid (lists_of known.old) }
+    ensures same { known.new ≡ known.old }
+    ensures told { IfOk result (λ said. said ≡ told.sync_told (lists_of known.old) user.now (told.sync_ask since full_state filter.now)) }
 {
     let ask = SyncAsk {
         user,
@@ -72,11 +74,11 @@ fn sync_told(
         full_state,
         after: false,
     };
-    match reply(alloc, snapshot, &ask) {
+    match known.reply(alloc, &ask) {
         Ok(reply) => Ok(Said::Synced(reply)),
         Err(SyncFault::TokenAhead { asked, front }) => {
             Ok(Said::Refused(Refusal::TokenAhead { asked, front }))
         }
-        Err(SyncFault::Memory) => Err(Memory),
+        Err(SyncFault::Memory(refused)) => Err(refused),
     }
 }

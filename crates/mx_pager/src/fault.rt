@@ -14,16 +14,16 @@ pub enum PageFault {
     Forbidden,
     /// An allocation was refused.
     #[error("want of memory")]
-    Memory,
+    Memory(Memory),
 }
 
 impl From<Memory> for PageFault {
     ghost use Rattle.std.specs.Prelude.{◌≡◌};
     ghost use Rattle.mx_pager.specs.declared.fault.PageFault.TheVariants as faults;
 
-    ghost from_gives = { λ _ e. e ≡ faults.Memory };
+    ghost from_gives = { λ m e. e ≡ faults.Memory m };
 
-    fn from(_refused: Memory) -> PageFault {
-        PageFault::Memory
+    fn from(refused: Memory) -> PageFault {
+        PageFault::Memory(refused)
     }
 }

@@ -1,8 +1,9 @@
 //! The state that a reply sends beside a section.
 
-ghost use Rattle.std.specs.Prelude.{◌≡◌, ◌&&◌, ◌||◌, ◌++◌, [], ◌∷◌, true, filter, map, IfOk, OnOk};
+ghost use Rattle.std.specs.Prelude.{◌≡◌, ◌&&◌, ◌||◌, ◌++◌, [], ◌∷◌, true, filter, map, nat_lt, IfOk, OnOk};
+ghost use Rattle.mx_event.specs.declared.event.Event.{Event};
 ghost use Rattle.mx_folding.specs.Parts.{is_cons, state_list};
-ghost use Rattle.mx_parts.specs.Picks.{Covers, NamesAll, hero_pair, is_early_by, is_kept_by, is_sent_by, key_pair, sender_pair, start_by, states_by};
+ghost use Rattle.mx_parts.specs.Picks.{Covers, NamesAll, hero_pair, is_early_by, is_kept_by, is_sent_by, key_pair, sender_pair, states_by};
 ghost use Rattle.mx_parts.specs.Readings.{IsRead, events_of, room_in};
 ghost use Rattle.mx_snapshot.specs.Looks.{all_now};
 
@@ -13,12 +14,13 @@ use mx_event::Event;
 use mx_event::event_types::MEMBER;
 use mx_ids::{Memory, Seq, Text};
 use mx_lazy::{Pick, Picker};
-use mx_state::is_standing;
+use mx_state::{is_standing, state_at};
 use std::alloc::Global;
 
 /// Of the room's state at a position what the state filter passes and is picked, in order of position; `named` says whether
-/// member events are picked by who is named, under these keys. Takes the time of the room's state events up to the position,
-/// or of a later part of those after it and of a search for each key, and of a search for each event that is picked.
+/// member events are picked by who is named, under these keys. Takes the time of a search for each type and state key that the
+/// room has a state event of, or of a later part of the state events after it and of a search for each key, and of a search for
+/// each event that is picked.
 pub(crate) fn state_part<'a>(
     alloc: Global,
     reading: &Reading<'a>,
@@ -35,8 +37,16 @@ pub(crate) fn state_part<'a>(
         let made = named_state(alloc, reading, picker, keys, position)?;
         return Ok(made);
     }
-    let made = looked_part(alloc, reading, picker, false, position)?;
-    Ok(made)
+    match picker.pick {
+        Pick::New => {
+            let made = whole_part(alloc, reading, picker, position)?;
+            Ok(made)
+        }
+        Pick::Later { from, .. } => {
+            let made = later_part(alloc, reading, picker, from, position)?;
+            Ok(made)
+        }
+    }
 }
 
 /// Where member events are picked by who is named.
@@ -53,7 +63,7 @@ fn named_state<'a>(
 {
     match picker.pick {
         Pick::New => {
-            let made = looked_part(alloc, reading, picker, true, position)?;
+            let made = whole_part(alloc, reading, picker, position)?;
             Ok(made)
         }
         Pick::Later { from, .. } => {
@@ -63,21 +73,35 @@ fn named_state<'a>(
     }
 }
 
-/// Among the room's state events.
-fn looked_part<'a>(
+/// Of the whole state at a position.
+fn whole_part<'a>(
     alloc: Global,
     reading: &Reading<'a>,
     picker: &Picker<'_>,
-    named: bool,
     position: u64,
 ) -> Result<Vec<&'a Event>, Memory>
     requires { IsRead reading.now }
-    ensures { IfOk result (λ made. all_now made.items ≡ filter (is_kept_by reading.now picker.now) (states_by (room_in reading.now) (events_of reading.now) named picker.now.pick position)) }
+    ensures { IfOk result (λ made. all_now made.items ≡ filter (is_kept_by reading.now picker.now) (state_list (room_in reading.now) (events_of reading.now) position)) }
+{
+    let state = state_at(alloc, reading.events, reading.room, position)?;
+    let made = kept_among(alloc, reading, picker, &state)?;
+    Ok(made)
+}
+
+/// Of what the state at a position has after an earlier one.
+fn later_part<'a>(
+    alloc: Global,
+    reading: &Reading<'a>,
+    picker: &Picker<'_>,
+    from: u64,
+    position: u64,
+) -> Result<Vec<&'a Event>, Memory>
+    requires { IsRead reading.now }
+    ensures { IfOk result (λ made. all_now made.items ≡ filter (is_kept_by reading.now picker.now) (filter (λ (e : Event). nat_lt from e.id.at) (state_list (room_in reading.now) (events_of reading.now) position))) }
 {
     let _front = reading.events.front();
-    let start = start(picker.pick, named);
-    let all = reading.events.states(alloc, reading.room, start, position)?;
-    let made = among(alloc, reading, picker, &all, position)?;
+    let later = reading.events.states(alloc, reading.room, from, position)?;
+    let made = among(alloc, reading, picker, &later, position)?;
     Ok(made)
 }
 
@@ -203,14 +227,35 @@ fn is_any(events: &[&Event]) -> bool
     }
 }
 
-/// The position behind which the events lie that may be picked.
-fn start(pick: Pick, named: bool) -> u64
-    ensures { result ≡ start_by named pick }
+fn kept_among<'a>(
+    alloc: Global,
+    reading: &Reading<'_>,
+    picker: &Picker<'_>,
+    states: &[&'a Event],
+) -> Result<Vec<&'a Event>, Memory>
+    requires { IsRead reading.now }
+    ensures { IfOk result (λ made. all_now made.items ≡ filter (is_kept_by reading.now picker.now) (all_now states.now)) }
 {
-    match pick {
-        Pick::New => 0,
-        Pick::Later { from, .. } => { if named { 0 } else { from } }
+    let mut made = Vec::new(alloc);
+    'states: for state in states {
+        keep_picked(&mut made, reading, picker, *state)?;
     }
+    Ok(made)
+}
+
+fn keep_picked<'a>(
+    made: &mut Vec<&'a Event>,
+    reading: &Reading<'_>,
+    picker: &Picker<'_>,
+    event: &'a Event,
+) -> Result<(), Memory>
+    requires { IsRead reading.now }
+    ensures { OnOk result (all_now made.new.items ≡ all_now made.old.items ++ filter (is_kept_by reading.now picker.now) (event.now ∷ [])) }
+{
+    if is_kept(reading, picker, event) {
+        made.push(event)?;
+    }
+    Ok(())
 }
 
 fn among<'a>(

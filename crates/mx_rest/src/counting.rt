@@ -4,6 +4,7 @@ ghost use Rattle.std.specs.Prelude.{◌≡◌, true, not, take, IfOk};
 ghost use Rattle.mx_fold.specs.Lists.{fronts_of, upto};
 ghost use Rattle.mx_snapshot.specs.Looks.{all_now};
 ghost use Rattle.mx_snapshot.specs.Receipts.{of_room};
+ghost use Rattle.mx_unread.specs.Kept.{StandAll};
 ghost use Rattle.mx_view.specs.Tokens.{is_before};
 ghost use Rattle.mx_rest.specs.Rests.{counts_in, news, same_counts};
 ghost use Rattle.mx_rest.specs.Servers.{AreValid, lists_of};
@@ -12,15 +13,21 @@ ghost use Rattle.mx_rest.specs.Walks.{is_uncounted};
 use crate::accounts::last_rules;
 use crate::receipts::has_own;
 use crate::rest::Rest;
-use mx_ids::{Memory, SyncToken};
+use mx_ids::{Memory, Seq, SyncToken};
 use mx_receipt::Receipt;
-use mx_unread::{Counts, counts};
+use mx_unread::{Counts, Tally, counts_with};
 use std::alloc::Global;
 
-/// The counts at the snapshot's fronts.
-pub(crate) fn counts_now(alloc: Global, rest: &Rest<'_>) -> Result<Counts, Memory>
+/// The counts at the snapshot's fronts, by tallies that stand for it.
+pub(crate) fn counts_now(
+    alloc: Global,
+    rest: &Rest<'_>,
+    tallies: &mut Seq<Tally>,
+) -> Result<Counts, Memory>
     requires valid { AreValid (lists_of rest.now.snapshot.now) }
-    ensures { IfOk result (λ c. c ≡ counts_in rest.now.user.now rest.now.room.now (lists_of rest.now.snapshot.now)) }
+    requires stand { StandAll rest.now.snapshot.now tallies.old }
+    ensures counts { IfOk result (λ c. c ≡ counts_in rest.now.user.now rest.now.room.now (lists_of rest.now.snapshot.now)) }
+    ensures stand { StandAll rest.now.snapshot.now tallies.new }
 {
     let fronts = SyncToken {
         e: rest.snapshot.events.front(),
@@ -29,33 +36,48 @@ pub(crate) fn counts_now(alloc: Global, rest: &Rest<'_>) -> Result<Counts, Memor
         d: 0,
         b: 0,
     };
-    let made = counts(alloc, rest.snapshot, rest.room, rest.user, &fronts)?;
-    Ok(made)
+    counts_with(alloc, rest.snapshot, rest.room, rest.user, &fronts, tallies)
 }
 
-/// Whether the counts aren't what they were at an earlier token. `receipts` are the room's receipts after it. The
-/// counts at the token are computed only where something came that counts rest on.
-pub(crate) fn counts_differ(
+/// The counts of a room, and whether they aren't what they were at an earlier token.
+#[derive(Clone, Copy)]
+pub(crate) struct Counted {
+    pub(crate) now: Counts,
+    pub(crate) differ: bool,
+}
+
+/// The counts, and whether they aren't what they were at an earlier token. `receipts` are the room's receipts after it. Tallies
+/// go on past the token only where something came that counts rest on: else the counts are those at the token.
+pub(crate) fn counts_since(
     alloc: Global,
     rest: &Rest<'_>,
     since: &SyncToken,
     receipts: &[&Receipt],
-    now: Counts,
-) -> Result<bool, Memory>
+    tallies: &mut Seq<Tally>,
+) -> Result<Counted, Memory>
     requires valid { AreValid (lists_of rest.now.snapshot.now) }
     requires behind { is_before since.now (fronts_of (lists_of rest.now.snapshot.now)) ≡ true }
     requires receipts { all_now receipts.now ≡ of_room rest.now.room.now (news (take since.now.r rest.now.snapshot.now.receipts) rest.now.snapshot.now.receipts) }
-    requires counted { now ≡ counts_in rest.now.user.now rest.now.room.now (lists_of rest.now.snapshot.now) }
-    ensures { IfOk result (λ d. d ≡ not (same_counts (counts_in rest.now.user.now rest.now.room.now (upto since.now (lists_of rest.now.snapshot.now))) (counts_in rest.now.user.now rest.now.room.now (lists_of rest.now.snapshot.now)))) }
+    requires stand { StandAll rest.now.snapshot.now tallies.old }
+    ensures now { IfOk result (λ c. c.now ≡ counts_in rest.now.user.now rest.now.room.now (lists_of rest.now.snapshot.now)) }
+    ensures differ { IfOk result (λ c. c.differ ≡ not (same_counts (counts_in rest.now.user.now rest.now.room.now (upto since.now (lists_of rest.now.snapshot.now))) (counts_in rest.now.user.now rest.now.room.now (lists_of rest.now.snapshot.now)))) }
+    ensures stand { StandAll rest.now.snapshot.now tallies.new }
 {
     let _events = rest.snapshot.events.front();
     let _receipts = rest.snapshot.receipts.front();
     let _entries = rest.snapshot.accounts.front();
+    let before = counts_with(alloc, rest.snapshot, rest.room, rest.user, since, tallies)?;
     if is_uncounted(rest, since, receipts) {
-        Ok(false)
+        Ok(Counted {
+            now: before,
+            differ: false,
+        })
     } else {
-        let before = counts(alloc, rest.snapshot, rest.room, rest.user, since)?;
-        Ok(!same_counts(before, now))
+        let now = counts_now(alloc, rest, tallies)?;
+        Ok(Counted {
+            now,
+            differ: !same_counts(before, now),
+        })
     }
 }
 

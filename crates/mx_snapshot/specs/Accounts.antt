@@ -17,7 +17,17 @@ is_users user (entry.Filter own_user id filter at) = false
 abbrev pub of_user : List ℕ → List Entry → List Entry
 of_user user entries = filter (is_users user) entries
 
+-- an entry is a filter of this user
+abbrev pub is_filter_of : List ℕ → Entry → Bool
+is_filter_of user (entry.Data own_user room kind content at) = false
+is_filter_of user (entry.Filter own_user id filter at) = bytes_eq own_user user
+
+-- the filters of one user
+abbrev pub filters_of : List ℕ → List Entry → List Entry
+filters_of user entries = filter (is_filter_of user) entries
+
 pub record IsIndexed (index : AccountIndex) (es : List Entry) : Type 0 where
   pub users : (user : List ℕ) → key_at index.users user ≡ map position_of (of_user user es)
   pub global : (user kind : List ℕ) → kind_at index.global user kind ≡ map position_of (filter (is_data_of user None kind) es)
   pub rooms : (room : RoomId) (user kind : List ℕ) → version_at index.rooms room user kind ≡ map position_of (filter (is_data_of user (Some room) kind) es)
+  pub filters : (user : List ℕ) → key_at index.filters user ≡ map position_of (filters_of user es)

@@ -14,7 +14,7 @@ use mx_ids::{Memory, RoomId};
 use std::alloc::Global;
 use std::collections::BTreeMap;
 
-/// Where to find what among entries of account data. Filters aren't in it.
+/// Where to find what among entries of account data.
 #[derive(Drop)]
 pub(crate) struct AccountIndex {
     /// The positions of each user's data, global and of all rooms.
@@ -23,6 +23,8 @@ pub(crate) struct AccountIndex {
     pub(crate) global: Kinds,
     /// The positions of the data of each room, user and type.
     pub(crate) rooms: BTreeMap<RoomId, Kinds>,
+    /// The positions of each user's filters.
+    pub(crate) filters: Keys,
 }
 
 impl AccountIndex {
@@ -34,6 +36,7 @@ impl AccountIndex {
             users: BTreeMap::new(alloc),
             global: BTreeMap::new(alloc),
             rooms: BTreeMap::new(alloc),
+            filters: BTreeMap::new(alloc),
         }
     }
 
@@ -52,7 +55,9 @@ impl AccountIndex {
                 self.take_data(alloc, user.as_str(), *room, kind.as_str(), *at)?;
                 Ok(())
             }
-            Entry::Filter { .. } => Ok(()),
+            Entry::Filter { user, at, .. } => {
+                add_to_key(alloc, &mut self.filters, user.as_str(), *at)
+            }
         }
     }
 
@@ -67,6 +72,7 @@ impl AccountIndex {
         ensures users { OnOk result ((u : List ℕ) → key_at self.new.users u ≡ key_at self.old.users u ++ one (bytes_eq user.now u) at) }
         ensures global { OnOk result ((u k : List ℕ) → kind_at self.new.global u k ≡ kind_at self.old.global u k ++ one ((bytes_eq user.now u && same_room room None) && bytes_eq kind.now k) at) }
         ensures rooms { OnOk result ((r : RoomId) (u k : List ℕ) → version_at self.new.rooms r u k ≡ version_at self.old.rooms r u k ++ one ((bytes_eq user.now u && same_room room (Some r)) && bytes_eq kind.now k) at) }
+        ensures filters { OnOk result (self.new.filters ≡ self.old.filters) }
     {
         add_to_key(alloc, &mut self.users, user, at)?;
         match room {

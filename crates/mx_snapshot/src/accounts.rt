@@ -7,7 +7,7 @@ ghost use Rattle.mx_window.specs.Lasts.{last_of};
 ghost use Rattle.mx_window.specs.Windows.{between};
 ghost use Rattle.mx_account.specs.Entries.{is_data_of, position_of};
 ghost use Rattle.mx_account.specs.Values.{AreInPlace};
-ghost use Rattle.mx_snapshot.specs.Accounts.{IsIndexed, is_users, of_user};
+ghost use Rattle.mx_snapshot.specs.Accounts.{IsIndexed, filters_of, is_users, of_user};
 ghost use Rattle.mx_snapshot.specs.Looks.{all_now, at_position, last_position};
 
 use crate::account_index::AccountIndex;
@@ -111,6 +111,21 @@ impl Accounts {
         ensures { result ≡ last_position position_of (is_users user.now) self.now }
     {
         last_one(key_positions(&self.index.users, user))
+    }
+
+    /// The filters that a user stored, at the positions after `low` and up to `high`, in their order. Takes the time of two searches
+    /// among the user's filters, and of those that it gives.
+    pub fn filters_of(
+        &self,
+        alloc: Global,
+        user: &str,
+        low: u64,
+        high: u64,
+    ) -> Result<Vec<&Entry>, Memory>
+        ensures { IfOk result (λ made. all_now made.items ≡ between position_of low high (filters_of user.now self.now)) }
+    {
+        let positions = key_positions(&self.index.filters, user);
+        gather(alloc, &self.entries, within(positions, low, high))
     }
 
     /// The last data of a user and a type up to a position, global ones where there is no room (Client-Server API, Client

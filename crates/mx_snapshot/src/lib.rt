@@ -6,8 +6,8 @@
 //! old front are looked at. For want of memory the list is left empty, and the next `advance` takes in all.
 //!
 //! Each look-up is a plain definition over the list, and says what it costs: the events of a room in a window, its
-//! state at a position, the last version of a state key, the first redaction of an event, a user's rooms, receipts
-//! and data. `first_redactions_are` says that in valid rooms that redaction is of the event's own room.
+//! state at a position, the last version of a state key, the first redaction of an event, a user's rooms, receipts,
+//! data and filters. `first_redactions_are` says that in valid rooms that redaction is of the event's own room.
 //!
 //! Begin with `snapshot.rt`, then `events.rt`, whose contracts cite `specs/Events.antt`.
 #![tactic(auto)]
@@ -23,6 +23,7 @@ mod lists;
 mod looks;
 mod named;
 mod positions;
+mod receipt_index;
 mod receipts;
 mod snapshot;
 mod steps;

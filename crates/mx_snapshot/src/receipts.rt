@@ -1,32 +1,29 @@
 //! The receipts of a stream up to its front.
 
-ghost use Rattle.std.specs.Prelude.{◌≡◌, ◌≤◌, ◌<◌, ◌+◌, ◌++◌, [], ◌∷◌, List, true, length, take, IfOk, OnErr, OnOk};
+ghost use Rattle.std.specs.Prelude.{◌≡◌, ◌≤◌, ◌<◌, ◌+◌, [], length, take, IfOk, OnErr, OnOk};
 ghost use Rattle.std.specs.Option.{option_copied};
 ghost use Rattle.mx_core.specs.History.{Begins};
 ghost use Rattle.mx_window.specs.Windows.{between};
 ghost use Rattle.mx_event.specs.Lawful.{same_room};
 ghost use Rattle.mx_receipt.specs.Receipts.{AreInPlace, position_of};
 ghost use Rattle.mx_snapshot.specs.Looks.{all_now, at_position, last_position};
-ghost use Rattle.mx_receipt.specs.declared.receipt.Receipt.{Receipt};
-ghost use Rattle.mx_snapshot.specs.Receipts.{HasRooms, of_room};
+ghost use Rattle.mx_snapshot.specs.Receipts.{IsIndexed, of_room, of_user};
 
 use crate::gather::gather;
-use crate::lists::add_to_room;
-use crate::looks::room_positions;
+use crate::looks::{room_positions, version_positions};
 use crate::positions::{last_one, within};
+use crate::receipt_index::{ReceiptIndex, kind_name};
 use mx_ids::{Memory, RoomId};
 use mx_lanes::Parts;
-use mx_receipt::Receipt;
+use mx_receipt::{Receipt, ReceiptKind};
 use std::alloc::Global;
-use std::collections::BTreeMap;
 use std::marker::Model;
 
-/// The receipts of a stream up to its front, with an index beside them. Contracts see it as the list of its receipts.
+/// The receipts of a stream up to its front, with indices beside them. Contracts see it as the list of its receipts.
 #[derive(Drop)]
 pub struct Receipts {
     receipts: Parts<Receipt>,
-    /// The positions of each room's receipts.
-    rooms: BTreeMap<RoomId, Vec<u64>>,
+    index: ReceiptIndex,
 }
 
 impl Model for Receipts {
@@ -35,7 +32,7 @@ impl Model for Receipts {
     ghost use Rattle.mx_receipt.specs.Receipts.{AreInPlace};
     ghost use Rattle.mx_receipt.specs.contracts.receipt.Receipt.{the_row as receipt_row};
     ghost use Rattle.mx_receipt.specs.declared.receipt.Receipt.{Receipt};
-    ghost use Rattle.mx_snapshot.specs.Receipts.{HasRooms};
+    ghost use Rattle.mx_snapshot.specs.Receipts.{IsIndexed};
 
     ghost Value = { List Receipt };
 
@@ -43,7 +40,7 @@ impl Model for Receipts {
 
     ghost view = { λ s. s.receipts.items };
 
-    ghost invariant = { λ s. AreInPlace s.receipts.items × HasRooms s.rooms s.receipts.items };
+    ghost invariant = { λ s. AreInPlace s.receipts.items × IsIndexed s.index s.receipts.items };
 }
 
 impl Receipts {
@@ -53,7 +50,7 @@ impl Receipts {
     {
         Receipts {
             receipts: Parts::none(alloc),
-            rooms: BTreeMap::new(alloc),
+            index: ReceiptIndex::new(alloc),
         }
     }
 
@@ -66,13 +63,13 @@ impl Receipts {
         ensures err { OnErr result (self.new ≡ []) }
     {
         let front = self.receipts.front();
-        let grown = index_after(alloc, &mut self.rooms, &receipts, front);
+        let grown = index_after(alloc, &mut self.index, &receipts, front);
         if grown.is_ok() {
             self.receipts = receipts;
         } else {
             drop(receipts);
             self.receipts = Parts::none(alloc);
-            self.rooms = BTreeMap::new(alloc);
+            self.index = ReceiptIndex::new(alloc);
         }
         grown
     }
@@ -103,7 +100,24 @@ impl Receipts {
     ) -> Result<Vec<&Receipt>, Memory>
         ensures { IfOk result (λ made. all_now made.items ≡ between position_of low high (of_room room.now self.now)) }
     {
-        let positions = room_positions(&self.rooms, room);
+        let positions = room_positions(&self.index.rooms, room);
+        gather(alloc, &self.receipts, within(positions, low, high))
+    }
+
+    /// The receipts of a user in a room, of one kind, at the positions after `low` and up to `high`, in their order. Takes the
+    /// time of two searches among these, and of those that it gives.
+    pub fn of_user(
+        &self,
+        alloc: Global,
+        room: &RoomId,
+        user: &str,
+        kind: ReceiptKind,
+        low: u64,
+        high: u64,
+    ) -> Result<Vec<&Receipt>, Memory>
+        ensures { IfOk result (λ made. all_now made.items ≡ between position_of low high (of_user room.now user.now kind self.now)) }
+    {
+        let positions = version_positions(&self.index.own, room, kind_name(kind), user);
         gather(alloc, &self.receipts, within(positions, low, high))
     }
 
@@ -111,49 +125,39 @@ impl Receipts {
     pub fn last_in(&self, room: &RoomId) -> u64
         ensures { result ≡ last_position position_of (λ receipt. same_room receipt.room room.now) self.now }
     {
-        last_one(room_positions(&self.rooms, room))
+        last_one(room_positions(&self.index.rooms, room))
     }
 }
 
 fn index_after(
     alloc: Global,
-    rooms: &mut BTreeMap<RoomId, Vec<u64>>,
+    index: &mut ReceiptIndex,
     receipts: &Parts<Receipt>,
     from: u64,
 ) -> Result<(), Memory>
     requires within { from ≤ length receipts.now.items }
-    requires indexed { HasRooms rooms.old (take from receipts.now.items) }
-    ensures { OnOk result (HasRooms rooms.new receipts.now.items) }
+    requires indexed { IsIndexed index.old (take from receipts.now.items) }
+    ensures { OnOk result (IsIndexed index.new receipts.now.items) }
 {
     'receipts: for position in from..receipts.front() {
-        take_next(alloc, rooms, receipts, position)?;
+        take_next(alloc, index, receipts, position)?;
     }
     Ok(())
 }
 
 fn take_next(
     alloc: Global,
-    rooms: &mut BTreeMap<RoomId, Vec<u64>>,
+    index: &mut ReceiptIndex,
     receipts: &Parts<Receipt>,
     passed: u64,
 ) -> Result<(), Memory>
     requires within { passed < length receipts.now.items }
-    requires indexed { HasRooms rooms.old (take passed receipts.now.items) }
-    ensures { OnOk result (HasRooms rooms.new (take (passed + 1) receipts.now.items)) }
+    requires indexed { IsIndexed index.old (take passed receipts.now.items) }
+    ensures { OnOk result (IsIndexed index.new (take (passed + 1) receipts.now.items)) }
 {
     let _front = receipts.front();
     match receipts.at(passed + 1) {
-        Some(receipt) => take_in(alloc, rooms, receipt),
+        Some(receipt) => index.take_in(alloc, receipt),
         None => Ok(()),
     }
-}
-
-fn take_in(
-    alloc: Global,
-    rooms: &mut BTreeMap<RoomId, Vec<u64>>,
-    receipt: &Receipt,
-) -> Result<(), Memory>
-    ensures { (rs : List Receipt) → HasRooms rooms.old rs → OnOk result (HasRooms rooms.new (rs ++ receipt.now ∷ [])) }
-{
-    add_to_room(alloc, rooms, receipt.room, receipt.at)
 }

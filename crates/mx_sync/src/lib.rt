@@ -17,6 +17,7 @@ mod answering;
 mod fault;
 mod invites;
 mod joined_rooms;
+mod known;
 mod laws;
 mod left_rooms;
 mod quiet_rooms;
@@ -26,8 +27,9 @@ mod rooms;
 mod sync_ask;
 mod sync_reply;
 
-pub use answering::reply;
+pub use answering::{reply, reply_with};
 pub use fault::SyncFault;
+pub use known::Known;
 pub use laws::replies_are;
 pub use sync_ask::SyncAsk;
 pub use sync_reply::{InvitedRoom, JoinedRoom, LeftRoom, Reply, RoomRest};

@@ -5,25 +5,40 @@
 //! and how many of them are highlighted. The answer is exactly what the definition `counts_at` of `specs/Unread.antt`
 //! says of the streams, of which each room's list is valid.
 //!
+//! A [`Tally`] keeps the counts of a user in a room at a token with the positions of the unread events, so that `advance`
+//! to a later token costs what came to the room since. `counts_with` counts by a list of tallies, of which it keeps those
+//! that were used last. The law `tallies_last` says that a tally stands for each longer snapshot.
+//!
 //! The law `counts_stay` says that the numbers stay the same where nothing came on which they rest, so a sync needn't
 //! count anew. `rules_at` gives the push rules that stand at a position.
 //!
 //! Begin with `counting.rt` and `specs/Unread.antt`; `window.rt` has what isn't read, `decider.rt` how one event is
-//! judged.
+//! judged. Of tallies begin with `running.rt`, `advancing.rt` and `specs/Kept.antt`.
 #![tactic(auto)]
 
+mod advancing;
+mod beginning;
 mod counting;
 mod decider;
 mod entering;
 mod joined;
+mod kept;
 mod laws;
+mod leaving;
 mod levels;
 mod marks;
+mod news;
+mod pooling;
+mod running;
+mod same_rules;
 mod stored_rules;
 mod unread_counts;
 mod window;
 
+pub use beginning::tally;
 pub use counting::counts;
-pub use laws::counts_stay;
+pub use laws::{counts_stay, tallies_last};
+pub use pooling::counts_with;
+pub use running::Tally;
 pub use stored_rules::rules_at;
 pub use unread_counts::Counts;

@@ -3,6 +3,7 @@
 ghost use Rattle.std.specs.Prelude.{◌≡◌, IfOk, option_and_then};
 ghost use Rattle.std.specs.Option.{option_copied};
 ghost use Rattle.mx_rest.specs.Servers.{lists_of};
+ghost use Rattle.mx_snapshot.specs.Looks.{all_now};
 ghost use Rattle.mx_user_reads.specs.Filters.{filter_in, filter_named, filter_read, filter_stored, first_filter, number_of, stored_filter};
 
 use crate::told::told_copy;
@@ -17,7 +18,7 @@ use std::alloc::Global;
 /// A user's stored filter of an id, as it was given (Client-Server API, `GET /user/{userId}/filter/{filterId}`). The ids are
 /// the decimal texts of numbers below 2^64, without leading zeros.
 ///
-/// `NotFound` exactly where the user has no filter of the id. Takes the time of all account data, as filters aren't indexed.
+/// `NotFound` exactly where the user has no filter of the id. Takes the time of the user's filters.
 #[tactic(auto, unfolding(crate::specs::Filters::stored_filter))]
 pub fn stored_filter(
     alloc: Global,
@@ -34,7 +35,7 @@ pub fn stored_filter(
 /// The filter by which a sync asks that has none of its own (Client-Server API, Filtering): the user's stored filter of the
 /// id that it names, or one that lets all pass where it names none.
 ///
-/// `None` exactly where the user has no filter of the id, or one that isn't read. Takes the time of all account data where an id is
+/// `None` exactly where the user has no filter of the id, or one that isn't read. Takes the time of the user's filters where an id is
 /// named.
 pub fn filter_named(
     alloc: Global,
@@ -73,7 +74,7 @@ fn filter_read(alloc: Global, json: &Json) -> Result<Option<Filter>, Memory>
         Ok(filter) => Ok(Some(filter)),
         Err(FilterFault::Shape(_)) => Ok(None),
         Err(FilterFault::Format) => Ok(None),
-        Err(FilterFault::Memory) => Err(Memory),
+        Err(FilterFault::Memory(refused)) => Err(refused),
     }
 }
 
@@ -87,7 +88,7 @@ fn filter_stored<'a>(
     ensures { IfOk result (λ o. option_copied o ≡ filter_stored (lists_of snapshot.now) user.now id.now) }
 {
     match number_of(alloc, id)? {
-        Some(number) => Ok(first_filter(&snapshot.accounts, user, number)),
+        Some(number) => first_filter(alloc, &snapshot.accounts, user, number),
         None => Ok(None),
     }
 }
@@ -108,11 +109,25 @@ fn number_of(alloc: Global, id: &Text) -> Result<Option<u64>, Memory>
 }
 
 /// A user's first filter of a number.
-fn first_filter<'a>(accounts: &'a Accounts, user: &UserId, number: u64) -> Option<&'a Json>
-    ensures { option_copied result ≡ first_filter user.now number accounts.now }
+fn first_filter<'a>(
+    alloc: Global,
+    accounts: &'a Accounts,
+    user: &UserId,
+    number: u64,
+) -> Result<Option<&'a Json>, Memory>
+    ensures { IfOk result (λ o. option_copied o ≡ first_filter user.now number accounts.now) }
 {
-    'entries: for position in 0..accounts.front() {
-        if let Some(filter) = filter_in(accounts.at(position + 1), user, number) {
+    let front = accounts.front();
+    let filters = accounts.filters_of(alloc, user.as_str(), 0, front)?;
+    Ok(first_among(&filters, user, number))
+}
+
+/// The first filter of a user and a number among some.
+fn first_among<'a>(filters: &[&'a Entry], user: &UserId, number: u64) -> Option<&'a Json>
+    ensures { option_copied result ≡ first_filter user.now number (all_now filters.now) }
+{
+    'filters: for entry in filters {
+        if let Some(filter) = filter_in(*entry, user, number) {
             return Some(filter);
         }
     }
@@ -120,10 +135,10 @@ fn first_filter<'a>(accounts: &'a Accounts, user: &UserId, number: u64) -> Optio
 }
 
 /// What an entry holds, if it is the user's filter of this number.
-fn filter_in<'a>(entry: Option<&'a Entry>, user: &UserId, number: u64) -> Option<&'a Json>
-    ensures { option_copied result ≡ option_and_then (filter_in user.now number) (option_copied entry.entry) }
+fn filter_in<'a>(entry: &'a Entry, user: &UserId, number: u64) -> Option<&'a Json>
+    ensures { option_copied result ≡ filter_in user.now number entry.now }
 {
-    match entry? {
+    match entry {
         Entry::Filter {
             user: own_user,
             id,

@@ -4,6 +4,7 @@ use crate::known::{accounts, receipts, snapshot};
 use crate::rows::room;
 use crate::scans::with;
 use mx_account::Entry;
+use mx_receipt::ReceiptKind;
 use mx_snapshot::{Accounts, Receipts, Snapshot};
 use std::alloc::Global;
 use std::mem;
@@ -15,7 +16,7 @@ const RECEIPTS: &str = r#"[
     [2,"@a:b",false,1], [3,"@a:b",false,1], [1,"@a:b",false,1],
     [2,"@a:b",false,1], [3,"@a:b",false,1], [1,"@a:b",false,1],
     [2,"@a:b",false,1], [3,"@a:b",false,1], [1,"@a:b",false,1],
-    [2,"@a:b",false,1], [3,"@a:b",false,1], [1,"@a:b",false,1]]"#;
+    [2,"@a:b",true,1], [2,"@c:b",false,1], [2,"@a:b",false,1]]"#;
 
 /// Account data of three rooms that take turns, and then global data: the user, the room or 0, the type and the content.
 const DATA: &str = r#"[
@@ -51,11 +52,31 @@ fn last_data(accounts: &Accounts, global: bool, last: u64) -> u64 {
 #[test]
 fn receipts_are_found_by_room(rt: HostRuntime) {
     let known = known(&rt, rt.alloc());
-    let wanted = with(with(with(0, 4), 7), 10);
+    let wanted = with(with(with(with(with(0, 4), 7), 10), 11), 12);
     let found = receipts_digest(&known.receipts, &rt, rt.alloc(), 1);
     assert_eq!(&rt; found, wanted);
-    assert_eq!(&rt; known.receipts.last_in(&room(2)), 10);
+    assert_eq!(&rt; known.receipts.last_in(&room(2)), 12);
     assert_eq!(&rt; known.receipts.front(), 12);
+    mem::forget(known);
+}
+
+/// The positions of a user's receipts in a room after the first, of one kind.
+fn own_digest(receipts: &Receipts, rt: &impl Abort, alloc: Global, kind: ReceiptKind) -> u64 {
+    let found = receipts.of_user(alloc, &room(2), "@a:b", kind, 1, 100);
+    let mut sum = 0u64;
+    for receipt in &found.expect(rt, "memory") {
+        sum = with(sum, receipt.at);
+    }
+    sum
+}
+
+#[test]
+fn receipts_are_found_by_room_user_and_kind(rt: HostRuntime) {
+    let known = known(&rt, rt.alloc());
+    let public = own_digest(&known.receipts, &rt, rt.alloc(), ReceiptKind::Read);
+    assert_eq!(&rt; public, with(with(with(0, 4), 7), 12));
+    let private = own_digest(&known.receipts, &rt, rt.alloc(), ReceiptKind::Private);
+    assert_eq!(&rt; private, with(0, 10));
     mem::forget(known);
 }
 

@@ -1,14 +1,15 @@
-use Rattle.std.proofs.Common.{◌∙◌, Some, None}
-use Rattle.std.specs.Option.{option_copied}
-use Rattle.mx_user_reads.proofs.Walk.{one_on}
+use Rattle.std.proofs.Common.{◌∙◌, ap}
+use Rattle.mx_account.specs.Entries.{position_of}
+use Rattle.mx_window.specs.Windows.{between}
+use Rattle.mx_snapshot.specs.Accounts.{filters_of}
+use Rattle.mx_snapshot.specs.Looks.{all_now}
+use Rattle.mx_user_reads.specs.Filters.{first_filter}
+use Rattle.mx_user_reads.proofs.Walk.{first_is}
 use Rattle.mx_user_reads.proofs.filters.first_filter.Goals as goal
 
-pub returns-in-Some : goal.returns-in-Some
-returns-in-Some c =
-    one_on c.args.user.now c.args.number c.args.accounts.now c.entries.position (option_copied c.at.result) (Some c.in-Some.filter.now) c.at.ensures c.in-Some.ensures
-    ∙ c.entries.invariant
-
-pub entries-preserved : goal.entries-preserved
-entries-preserved c =
-    one_on c.args.user.now c.args.number c.args.accounts.now c.entries.position (option_copied c.at.result) None c.at.ensures c.in_default.ensures
-    ∙ c.entries.invariant
+pub returns : goal.returns
+returns c =
+    c.first_among.ensures
+    ∙ ap (first_filter c.args.user.now c.args.number) (ap all_now c.deref.ensures.value ∙ c.in_ok-filters.ensures
+    ∙ ap (λ u. between position_of 0 c.front-front.result (filters_of u c.args.accounts.now)) c.as_str.ensures.text)
+    ∙ first_is c.args.user.now c.args.number c.args.accounts.now c.front-front.result c.front-front.ensures.placed c.front-front.ensures.count

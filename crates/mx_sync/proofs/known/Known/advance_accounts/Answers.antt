@@ -1,0 +1,12 @@
+use Rattle.std.proofs.Common.{sym, subst, ◌∙◌}
+use Rattle.mx_core.specs.History.{Begins}
+use Rattle.mx_snapshot.specs.declared.snapshot.Snapshot.{Snapshot}
+use Rattle.mx_sync.proofs.Knowing.{accounts_last}
+use Rattle.mx_sync.proofs.known.Known.advance_accounts.Goals as goal
+
+pub invariant_of-self-else-is_err : goal.invariant_of-self-else-is_err
+invariant_of-self-else-is_err c =
+    accounts_last c.tallies_last.ensures c.self.inside.snapshot c.args.accounts.items c.advance-grown.new.self c.advance-grown.result
+    (record { events = c.front-events.ensures.placed; receipts = c.front-receipts.ensures.placed; accounts = c.front-accounts.ensures.placed })
+    c.requires.placed (subst (λ (s : Snapshot). Begins s.accounts c.args.accounts.items) (sym c.self.view_is) c.requires.begins)
+    c.advance-grown.ensures.ok (sym c.is_err.ensures.value ∙ c.if-is_err.false) c.self.inside.tallies c.self.invariant
