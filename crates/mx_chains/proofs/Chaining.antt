@@ -18,6 +18,7 @@ use Rattle.mx_filter.specs.declared.parts.Selection.{Selection}
 use Rattle.mx_filter.specs.Sieves as sieves
 use Rattle.mx_folding.specs.Parts.{Page, Part}
 use Rattle.mx_folding.specs.Stories.{Told}
+use Rattle.mx_ids.specs.Memory.{refused_memory}
 use Rattle.mx_ids.specs.User.{server_of}
 use Rattle.mx_ids.specs.declared.sync_token.SyncToken.{SyncToken}
 use Rattle.mx_fold.specs.Clients.{Agrees, Client, after_reply, chain, nothing_held, with_reply, with_said}
@@ -141,7 +142,7 @@ module _ (w : Server RoomView RoomDelta) (l : Lists) (user : List ℕ) where
 
 -- ---- one answer
 
-nothing_heard : (a : Ask) → heard a said.NoMemory ≡ PassedOver
+nothing_heard : (a : Ask) → heard a (said.NoMemory refused_memory) ≡ PassedOver
 nothing_heard (Syncs a) = refl
 nothing_heard (Pages a) = refl
 nothing_heard Else = refl
@@ -227,7 +228,7 @@ module _ (site : Site) (all : Histories) (lawful : AreLawful all) (user : List �
     | inr others ↦ rw others (other a.mark.memory)
   ] where
     by_memory : (memory : Bool) (x : Ask) (told : _) → Alike (heard x told) (answer_to w (lists_in a) user x)
-        → Alike (heard x (if memory then said.NoMemory else told)) (cond memory PassedOver (answer_to w (lists_in a) user x))
+        → Alike (heard x (if memory then (said.NoMemory refused_memory) else told)) (cond memory PassedOver (answer_to w (lists_in a) user x))
     by_memory true x told h = rw (nothing_heard x) tt
     by_memory false x told h = h
 

@@ -3,6 +3,7 @@ use Rattle.std.proofs.Common.{◌≡◌, if◌then◌else◌, ℕ, zero, suc, �
 use Rattle.std.specs.Prelude.{IfSome}
 use Rattle.std.specs.List.{AllByRecursion, Contains}
 use Rattle.std.proofs.lemmas.Bool.{and_parts}
+use Rattle.mx_ids.specs.Memory.{refused_memory}
 use Rattle.mx_ids.specs.User.{server_of}
 use Rattle.mx_ids.specs.declared.room_id.RoomId.{RoomId}
 use Rattle.mx_window.specs.Windows.{between}
@@ -125,7 +126,7 @@ module _ (l : Lists) (user : List ℕ) where
       (has_room l room)
 
   -- nothing is told where memory was wanting
-  refused_seen : (o : Option (Option RoomId)) → IfSome o (λ named. SeesIn l user named said.NoMemory)
+  refused_seen : (o : Option (Option RoomId)) → IfSome o (λ named. SeesIn l user named (said.NoMemory refused_memory))
   refused_seen None = tt
   refused_seen (Some named) = tt
 
@@ -169,7 +170,7 @@ module _ (site : Site) (h : Histories) (m : marks.Mark) (now : ℕ) (who : Who) 
 
   answer_seen : (x : what.Ask) → SeesPage site (lists_of h) who x (answered site h m now who x)
   answer_seen x = by m.memory where
-    by : (memory : Bool) → SeesPage site (lists_of h) who x (if memory then said.NoMemory else act_said h m (asked site now who x))
+    by : (memory : Bool) → SeesPage site (lists_of h) who x (if memory then (said.NoMemory refused_memory) else act_said h m (asked site now who x))
     by true = refused_seen (lists_of h) who.user (paged_room site x)
     by false = act_seen x
 

@@ -29,7 +29,7 @@ mod taking;
 mod waiting;
 mod writes;
 
-pub use answered::{Answered, Counts, Mark};
+pub use answered::{Answered, Counts, Mark, Unstored};
 pub use held::{Engine, EnginePass};
-pub use laws::{engines_cross_threads, exchanges_go_on, repeats_stay};
+pub use laws::{engines_cross_threads, exchanges_go_on};
 pub use start::{Setup, engine};

@@ -40,7 +40,7 @@ impl EnginePass {
             lane: None,
             own: None,
             marker: None,
-            full: None,
+            unstored: None,
             now,
             memory: false,
             told: None,
@@ -54,7 +54,7 @@ impl EnginePass {
         ensures now { result.mark.now ≡ now }
     {
         match said {
-            Err(_) => self.no_memory(now),
+            Err(refused) => self.no_memory(now, refused),
             Ok(said) => Answered {
                 said,
                 mark: self.mark(now),
@@ -74,13 +74,13 @@ impl EnginePass {
     }
 
     /// The answer where memory was wanting before a writer was asked.
-    pub fn no_memory(&self, now: u64) -> Answered
-        ensures said { result.said ≡ Said.NoMemory }
+    pub fn no_memory(&self, now: u64, refused: Memory) -> Answered
+        ensures said { result.said ≡ Said.NoMemory refused }
         ensures mark { result.mark ≡ record (reading now (stores_of self.now)) { memory = true } }
     {
         let mark = self.mark(now);
         Answered {
-            said: Said::NoMemory,
+            said: Said::NoMemory(refused),
             mark: Mark {
                 memory: true,
                 ..mark
@@ -134,7 +134,7 @@ impl<G: Gate + Drop> Engine<G> {
             alloc,
             self.events.stream(),
             &mut pass.events,
-            &mut pass.snapshot.events,
+            &mut pass.snapshot,
             &mut pass.known.events,
         )?;
         take_receipts(
@@ -142,7 +142,7 @@ impl<G: Gate + Drop> Engine<G> {
             alloc,
             self.receipts.stream(),
             &mut pass.receipts,
-            &mut pass.snapshot.receipts,
+            &mut pass.snapshot,
             &mut pass.known.receipts,
         )?;
         take_accounts(
@@ -150,7 +150,7 @@ impl<G: Gate + Drop> Engine<G> {
             alloc,
             self.accounts.stream(),
             &mut pass.accounts,
-            &mut pass.snapshot.accounts,
+            &mut pass.snapshot,
             &mut pass.known.accounts,
         )
     }

@@ -12,7 +12,7 @@ use mx_event::Event;
 use mx_front::Stream;
 use mx_ids::Memory;
 use mx_receipt::Receipt;
-use mx_snapshot::{Accounts, Events, Receipts};
+use mx_sync::Known;
 use std::alloc::Global;
 use std::sync::Wait;
 
@@ -23,24 +23,26 @@ pub(crate) fn take_events<R: Wait>(
     alloc: Global,
     stream: &Stream<Event>,
     seat: &mut Seat<Event>,
-    events: &mut Events,
+    snapshot: &mut Known,
     stores: &mut u64,
 ) -> Result<(), Memory>
     requires stream { place_of_pass seat.old.pass ≡ place_of stream.now }
-    requires taken { IsTaken stores.old events.old (seen_by seat.old.pass) }
+    requires taken { IsTaken stores.old snapshot.old.events (seen_by seat.old.pass) }
     ensures stream { place_of_pass seat.new.pass ≡ place_of_pass seat.old.pass }
     ensures begins { Begins (seen_by seat.old.pass) (seen_by seat.new.pass) }
     ensures looks { (reads seat.old.pass).looks ≤ (reads seat.new.pass).looks }
     ensures made { seat.new.made ≡ seat.old.made }
-    ensures taken { IsTaken stores.new events.new (seen_by seat.new.pass) }
-    ensures all { OnOk result (events.new ≡ covered (seen_by seat.new.pass)) }
+    ensures taken { IsTaken stores.new snapshot.new.events (seen_by seat.new.pass) }
+    ensures all { OnOk result (snapshot.new.events ≡ covered (seen_by seat.new.pass)) }
+    ensures receipts { snapshot.new.receipts ≡ snapshot.old.receipts }
+    ensures accounts { snapshot.new.accounts ≡ snapshot.old.accounts }
 {
     if seat.has_just(*stores) {
         return Ok(());
     }
     let parts = seat.look(rt, alloc, stream)?;
     *stores = 0;
-    events.advance(alloc, parts)?;
+    snapshot.advance_events(alloc, parts)?;
     *stores = seat.stores();
     Ok(())
 }
@@ -52,24 +54,26 @@ pub(crate) fn take_receipts<R: Wait>(
     alloc: Global,
     stream: &Stream<Receipt>,
     seat: &mut Seat<Receipt>,
-    receipts: &mut Receipts,
+    snapshot: &mut Known,
     stores: &mut u64,
 ) -> Result<(), Memory>
     requires stream { place_of_pass seat.old.pass ≡ place_of stream.now }
-    requires taken { IsTaken stores.old receipts.old (seen_by seat.old.pass) }
+    requires taken { IsTaken stores.old snapshot.old.receipts (seen_by seat.old.pass) }
     ensures stream { place_of_pass seat.new.pass ≡ place_of_pass seat.old.pass }
     ensures begins { Begins (seen_by seat.old.pass) (seen_by seat.new.pass) }
     ensures looks { (reads seat.old.pass).looks ≤ (reads seat.new.pass).looks }
     ensures made { seat.new.made ≡ seat.old.made }
-    ensures taken { IsTaken stores.new receipts.new (seen_by seat.new.pass) }
-    ensures all { OnOk result (receipts.new ≡ covered (seen_by seat.new.pass)) }
+    ensures taken { IsTaken stores.new snapshot.new.receipts (seen_by seat.new.pass) }
+    ensures all { OnOk result (snapshot.new.receipts ≡ covered (seen_by seat.new.pass)) }
+    ensures events { snapshot.new.events ≡ snapshot.old.events }
+    ensures accounts { snapshot.new.accounts ≡ snapshot.old.accounts }
 {
     if seat.has_just(*stores) {
         return Ok(());
     }
     let parts = seat.look(rt, alloc, stream)?;
     *stores = 0;
-    receipts.advance(alloc, parts)?;
+    snapshot.advance_receipts(alloc, parts)?;
     *stores = seat.stores();
     Ok(())
 }
@@ -81,24 +85,26 @@ pub(crate) fn take_accounts<R: Wait>(
     alloc: Global,
     stream: &Stream<Entry>,
     seat: &mut Seat<Entry>,
-    accounts: &mut Accounts,
+    snapshot: &mut Known,
     stores: &mut u64,
 ) -> Result<(), Memory>
     requires stream { place_of_pass seat.old.pass ≡ place_of stream.now }
-    requires taken { IsTaken stores.old accounts.old (seen_by seat.old.pass) }
+    requires taken { IsTaken stores.old snapshot.old.accounts (seen_by seat.old.pass) }
     ensures stream { place_of_pass seat.new.pass ≡ place_of_pass seat.old.pass }
     ensures begins { Begins (seen_by seat.old.pass) (seen_by seat.new.pass) }
     ensures looks { (reads seat.old.pass).looks ≤ (reads seat.new.pass).looks }
     ensures made { seat.new.made ≡ seat.old.made }
-    ensures taken { IsTaken stores.new accounts.new (seen_by seat.new.pass) }
-    ensures all { OnOk result (accounts.new ≡ covered (seen_by seat.new.pass)) }
+    ensures taken { IsTaken stores.new snapshot.new.accounts (seen_by seat.new.pass) }
+    ensures all { OnOk result (snapshot.new.accounts ≡ covered (seen_by seat.new.pass)) }
+    ensures events { snapshot.new.events ≡ snapshot.old.events }
+    ensures receipts { snapshot.new.receipts ≡ snapshot.old.receipts }
 {
     if seat.has_just(*stores) {
         return Ok(());
     }
     let parts = seat.look(rt, alloc, stream)?;
     *stores = 0;
-    accounts.advance(alloc, parts)?;
+    snapshot.advance_accounts(alloc, parts)?;
     *stores = seat.stores();
     Ok(())
 }

@@ -1,5 +1,5 @@
 //! A clock.
-ghost use Rattle.std.specs.Prelude.{◌≡◌, ℕ, ◌≤◌};
+ghost use Rattle.std.specs.Prelude.{◌≡◌, ℕ, ◌≤◌, List, [], ◌∷◌, ◌++◌};
 ghost use Rattle.mx_outside.specs.Readings.{most_reading};
 
 /// The greatest reading of a clock, in milliseconds: 2^53 - 1, the greatest integer of JSON
@@ -11,17 +11,23 @@ pub trait Clock: Sized {
     /// The last reading: what the last `now` answered, or 0 before the first.
     ghost last: { Self → ℕ };
 
+    /// The readings so far, in order: what each `now` answered.
+    ghost readings: { Self → List ℕ };
+
     /// Reads the clock: milliseconds, at most 9,007,199,254,740,991. It can't fail: a clock that isn't
     /// read answers its last reading.
     fn now(&mut self) -> u64
         ensures last { last self.new ≡ result }
+        ensures readings { readings self.new ≡ readings self.old ++ result ∷ [] }
         ensures most { result ≤ most_reading };
 
     /// Waits for so many milliseconds, or not at all: nothing is claimed of the time that passes.
     fn rest(&mut self, ms: u64)
-        ensures { last self.new ≡ last self.old };
+        ensures last { last self.new ≡ last self.old }
+        ensures readings { readings self.new ≡ readings self.old };
 
-    /// Another clock, with the same last reading.
+    /// Another clock, with the same readings so far.
     fn twin(&self) -> Self
-        ensures { last result ≡ last self.now };
+        ensures last { last result ≡ last self.now }
+        ensures readings { readings result ≡ readings self.now };
 }

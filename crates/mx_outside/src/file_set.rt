@@ -14,17 +14,17 @@ pub enum FileFault {
     /// The file has more bytes than were allowed.
     TooLong,
     /// Memory was refused.
-    Memory,
+    Memory(AllocError),
 }
 
 impl From<AllocError> for FileFault {
     ghost use Rattle.std.specs.Prelude.{◌≡◌};
     ghost use Rattle.mx_outside.specs.declared.file_set.FileFault.TheVariants as faults;
 
-    ghost from_gives = { λ _ e. e ≡ faults.Memory };
+    ghost from_gives = { λ m e. e ≡ faults.Memory m };
 
-    fn from(_: AllocError) -> Self {
-        FileFault::Memory
+    fn from(refused: AllocError) -> Self {
+        FileFault::Memory(refused)
     }
 }
 

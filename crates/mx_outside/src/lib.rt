@@ -3,7 +3,8 @@
 //!
 //! Each but the clock counts its faults, and answers that it failed only in a call in which that count rose, or
 //! stands at its last value. Where a source tells what is left to come, a call gives its beginning; where a sink
-//! tells what was written, it has just the bytes that it was given. A clock can't fail.
+//! tells what was written, it has just the bytes that it was given. A clock can't fail, and contracts read all that it
+//! has answered.
 //!
 //! Each has a form in memory ([`MemSource`], [`MemSink`], [`MemFiles`], [`MemListener`], [`StepClock`]), whose calls
 //! fail where the caller lists them, and an adapter to the system ([`StdIn`], [`StdOut`], [`StdErr`], [`HostFiles`],
@@ -25,6 +26,7 @@ mod mem_files;
 mod mem_listener;
 mod mem_sink;
 mod mem_source;
+mod readings;
 mod running;
 mod sink;
 mod source;

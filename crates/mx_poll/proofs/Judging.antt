@@ -1,6 +1,7 @@
 -- What is judged after a look, over plain values.
 use Rattle.std.proofs.Common.{◌≡◌, if◌then◌else◌, ℕ, ◌<◌, ◌≤◌, ◌&&◌, Bool, true, false, Some, List, nat_lt, refl, sym, ap, subst, ◌∙◌, arith}
 use Rattle.std.proofs.lemmas.Bool.{and_parts, ltb-false, ltb-true}
+use Rattle.mx_ids.specs.Memory.{refused_memory}
 use Rattle.mx_ids.specs.declared.sync_token.SyncToken.{SyncToken}
 use Rattle.mx_fold.specs.Lists.{Grows, Histories, Lists, fronts_of, lists_of}
 use Rattle.mx_writers.specs.declared.gate.Gate.{Ghosts}
@@ -33,7 +34,7 @@ use Rattle.mx_poll.proofs.Staying.{polled_now, still_told}
 told_empty : (stops : Stops) (reads : Lists → Said) (old new : Histories) (a : Answered) → IsDone stops (Reads reads) old new a → tells_nothing a.said ≡ true
     → tells_nothing (reads (lists_of new)) ≡ true
 told_empty stops reads old new a done empty = by a.mark.memory (sym (ap tells_nothing done.said_is) ∙ empty) where
-  by : (b : Bool) → tells_nothing (if b then said.NoMemory else reads (lists_of new)) ≡ true → tells_nothing (reads (lists_of new)) ≡ true
+  by : (b : Bool) → tells_nothing (if b then (said.NoMemory refused_memory) else reads (lists_of new)) ≡ true → tells_nothing (reads (lists_of new)) ≡ true
   by true h = absurd cc
   by false h = h
 

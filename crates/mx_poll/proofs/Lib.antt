@@ -1,6 +1,7 @@
 mod AtOnce
 mod Judging
 mod Later
+mod Readings
 mod Standing
 mod Staying
-mod Waited
+pub mod Waited

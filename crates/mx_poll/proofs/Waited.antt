@@ -1,5 +1,6 @@
 -- A request that was answered at once, and a sync that waited.
-use Rattle.std.proofs.Common.{◌≡◌, ℕ, ◌+◌, ◌≤◌, false, Some, sym, subst, ◌∙◌}
+use Rattle.std.proofs.Common.{◌≡◌, ℕ, ◌+◌, ◌≤◌, Bool, false, true, Option, None, Some, refl, sym, subst, ◌∙◌}
+use Rattle.mx_ask.specs.declared.said.Said.{Said}
 use Rattle.mx_fold.specs.Lists.{Lists}
 use Rattle.mx_writers.specs.declared.gate.Gate.{Ghosts}
 use Rattle.mx_ask.specs.declared.ask.Ask.{Ask}
@@ -13,7 +14,7 @@ use Rattle.mx_engine.specs.declared.answered.Answered.{Answered}
 use Rattle.mx_engine.specs.declared.held.Engine.{Engine}
 use Rattle.mx_engine.specs.declared.held.EnginePass.{EnginePass}
 use Rattle.mx_poll.specs.Polls.{IsAnsweredBy, IsDue, IsWaitedBy, IsWaiting, said_of}
-use Rattle.mx_poll.specs.Waits.{HasWaited}
+use Rattle.mx_poll.specs.Waits.{HasWaited, Waits, tells_nothing}
 use Rattle.mx_poll.specs.declared.states.SyncPoll.{SyncPoll}
 use Rattle.mx_poll.proofs.Later.{done_on, looked_on}
 
@@ -48,3 +49,15 @@ module _ {G : Type 0} {g : Ghosts G} (e : Engine G g) (who : Who) (a : Ask) (now
     later_waited due =
         subst (λ x. HasWaited x now r.mark.now r.said) (sym is)
         ((λ may empty. subst (λ n. n ≤ r.mark.now) w.deadline_is (due empty)), (λ may. absurd cc))
+
+-- ---- where something is told
+
+-- what tells something may be told in the place of what was told
+pub waits_told : (sync : Option (Bool × ℕ)) (now last : ℕ) (told other : Said) → tells_nothing other ≡ false → Waits sync now last told → Waits sync now last other
+waits_told None now last told other tells h = h
+waits_told (Some sync) now last told other tells h = ((λ may empty. absurd cc), h.1)
+
+-- and at once
+pub waits_none : (sync : Option (Bool × ℕ)) (now : ℕ) (told : Said) → tells_nothing told ≡ false → Waits sync now now told
+waits_none None now told tells = refl
+waits_none (Some sync) now told tells = ((λ may empty. absurd cc), λ may. refl)

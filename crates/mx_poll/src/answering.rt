@@ -1,6 +1,6 @@
 //! The answer to what a user asks, where a sync that waits rests in the caller's thread.
 
-ghost use Rattle.std.specs.Prelude.{◌≡◌, ◌≤◌};
+ghost use Rattle.std.specs.Prelude.{◌≡◌, ℕ, ◌≤◌};
 ghost use Rattle.mx_ask.specs.Asks.{IsAsk};
 ghost use Rattle.mx_acts.specs.Acts.{Reads, asked};
 ghost use Rattle.mx_engine.specs.Answers.{IsAnswered, made_for};
@@ -8,7 +8,7 @@ ghost use Rattle.mx_engine.specs.Shown.{LooksFor, Ties, made_of, site_of, stops_
 ghost use Rattle.mx_fold.specs.Lists.{lists_of};
 ghost use Rattle.mx_outside.specs.Readings.{most_reading};
 ghost use Rattle.mx_poll.specs.Polls.{IsDue, IsPolled, IsWaitedBy, said_of};
-ghost use Rattle.mx_poll.specs.Waits.{HasWaited};
+ghost use Rattle.mx_poll.specs.Waits.{HasWaited, ReadsOn};
 
 use crate::beginning::begin;
 use crate::polling::poll;
@@ -27,7 +27,8 @@ use std::sync::Wait;
 ///
 /// A sync with `since` and without `full_state` that has nothing to tell waits, and looks again when something was stored:
 /// it tells that there is nothing only once a reading of the clock has come to `now` and the timeout (Client-Server API, Syncing).
-/// The mark has the last reading; any other request is answered at once.
+/// The mark has the last reading; any other request is answered at once. Only the stores that the mark tells are made with the pass,
+/// and no pass is split off from it.
 pub fn answer<G: Gate + Drop, R: Wait + rt::Clock, C: Clock>(
     rt: &R,
     alloc: Global,
@@ -48,6 +49,7 @@ pub fn answer<G: Gate + Drop, R: Wait + rt::Clock, C: Clock>(
     ensures looks { LooksFor ask pass.old pass.new }
     ensures waited { HasWaited ask now result.mark.now result.said }
     ensures last { C.last clock.new ≡ result.mark.now }
+    ensures read { ReadsOn (C.readings clock.old) (C.readings clock.new) now result.mark.now }
 {
     match begin(rt, alloc, engine, pass, who, ask, now) {
         Begun::Done(answered) => answered,
@@ -71,6 +73,7 @@ fn wait<G: Gate + Drop, R: Wait + rt::Clock, C: Clock>(
     ensures done { IsWaitedBy engine.now (Reads (said_of waiting)) pass.old pass.new result }
     ensures due { IsDue waiting result.mark.now result.said }
     ensures last { C.last clock.new ≡ result.mark.now }
+    ensures read { ReadsOn (C.readings clock.old) (C.readings clock.new) now result.mark.now }
 {
     let mut waiting = waiting;
     match pass.flag(alloc) {
@@ -91,9 +94,9 @@ fn wait<G: Gate + Drop, R: Wait + rt::Clock, C: Clock>(
             drop(waiting);
             answered
         }
-        Err(_) => {
+        Err(refused) => {
             drop(waiting);
-            pass.no_memory(now)
+            pass.no_memory(now, refused.into())
         }
     }
 }
@@ -114,6 +117,7 @@ fn rest<G: Gate + Drop, R: Wait + rt::Clock, C: Clock>(
     ensures done { IsWaitedBy engine.now (Reads (said_of waiting.old)) pass.old pass.new result }
     ensures due { IsDue waiting.old result.mark.now result.said }
     ensures last { C.last clock.new ≡ result.mark.now }
+    ensures read { (first : ℕ) → ReadsOn (C.readings clock.old) (C.readings clock.new) first result.mark.now }
 {
     'polls: for _ in rt.forever() {
         // Read before the flag is parked: a raise after it ends the rest.

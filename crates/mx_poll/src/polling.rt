@@ -67,24 +67,25 @@ pub fn poll<G: Gate + Drop, R: Wait>(
             *kept = Some(tickets);
             match look_after(rt, alloc, engine, pass, tickets) {
                 Ok(seen) => judge(alloc, pass, poll, now, seen),
-                Err(_) => Polled::Done(pass.no_memory(now)),
+                Err(refused) => Polled::Done(pass.no_memory(now, refused)),
             }
         }
-        Err(_) => {
+        Err(refused) => {
             let _ = engine.look(rt, alloc, pass);
-            Polled::Done(pass.no_memory(now))
+            Polled::Done(pass.no_memory(now, refused))
         }
     }
 }
 
 /// The same after the look.
-fn judge(alloc: Global, pass: &EnginePass, poll: &mut SyncPoll, now: u64, seen: Seen) -> Polled
-    requires known { known_of pass.now ≡ lists_of (stores_of pass.now) }
-    requires valid { AreValid (known_of pass.now) }
-    requires polled { IsPolled poll.old (lists_of (stores_of pass.now)) }
-    requires seen { seen.at ≡ fronts_of (lists_of (stores_of pass.now)) }
+fn judge(alloc: Global, pass: &mut EnginePass, poll: &mut SyncPoll, now: u64, seen: Seen) -> Polled
+    requires known { known_of pass.old ≡ lists_of (stores_of pass.old) }
+    requires valid { AreValid (known_of pass.old) }
+    requires polled { IsPolled poll.old (lists_of (stores_of pass.old)) }
+    requires seen { seen.at ≡ fronts_of (lists_of (stores_of pass.old)) }
+    ensures pass { pass.new ≡ pass.old }
     ensures same { poll.new ≡ record poll.old { empty_at = poll.new.empty_at } }
-    ensures judged { IsJudged poll.new now seen pass.now result }
+    ensures judged { IsJudged poll.new now seen pass.old result }
 {
     if is_still(pass, poll, now) {
         poll.empty_at = seen.at;

@@ -3,6 +3,7 @@ use Rattle.std.specs.Io.KnownBytes.{Keeps}
 use Rattle.std.proofs.Common.{◌≡◌, ◌⊎◌, ℕ, List, Option, Some, None, [], inl, inr, sym, subst, ◌∙◌}
 use Rattle.mx_engine.specs.declared.held.EnginePass.{EnginePass}
 use Rattle.mx_serve.specs.declared.ended.Ended.{Ended}
+use Rattle.mx_ids.specs.Memory.{refused_memory}
 use Rattle.mx_pool.specs.declared.status.Status.{Status}
 use Rattle.mx_pool.specs.declared.status.Status.TheVariants as status
 use Rattle.mx_pool.specs.Lines.{Tells, line_of, shown}
@@ -68,13 +69,13 @@ short_ran Refused w s c short = (inr short.0, short.1)
 short_ran (Wrong why) w s c short = (inr short.0, short.1)
 
 -- then the status isn't `Done`
-pub short_closed : {P : Type 0} (m : Meaning) (s : Status) (left : Option (List P)) → s ≡ status.Memory → s ≡ status.Done → ServesAll m left
+pub short_closed : {P : Type 0} (m : Meaning) (s : Status) (left : Option (List P)) → s ≡ status.Memory refused_memory → s ≡ status.Done → ServesAll m left
 short_closed m s left memory is = absurd (other (sym memory ∙ is))
   where
-    other : ◌≡◌ {A = Status} status.Memory status.Done → ⊥
+    other : ◌≡◌ {A = Status} (status.Memory refused_memory) status.Done → ⊥
     other e = cc
 
-pub short_told : (m : Meaning) (c : Option (Ended × EnginePass)) (old new : Option (List ℕ)) (f h : ℕ) (s : Status) → s ≡ status.Memory → Tells old new f h (line_of s None) → TellsRun m c old new f h s
+pub short_told : (m : Meaning) (c : Option (Ended × EnginePass)) (old new : Option (List ℕ)) (f h : ℕ) (s : Status) → s ≡ status.Memory refused_memory → Tells old new f h (line_of s None) → TellsRun m c old new f h s
 short_told (Says said) c old new f h s memory t = inl (memory, t)
 short_told Help c old new f h s memory t = t
 short_told Version c old new f h s memory t = t

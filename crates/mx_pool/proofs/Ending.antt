@@ -6,6 +6,7 @@ use Rattle.mx_engine.specs.declared.held.EnginePass.{EnginePass}
 use Rattle.mx_fold.specs.Lists.{Histories}
 use Rattle.mx_serve.proofs.Rooms.{all_lawful}
 use Rattle.mx_serve.proofs.Together.{sessions_agree}
+use Rattle.mx_ids.specs.Memory.{refused_memory}
 use Rattle.mx_pool.specs.Connections.{Change, Ends, HaveServed, Service, change, session_of}
 use Rattle.mx_pool.specs.Serving.{AreBegun, HasServed, IsGiven}
 use Rattle.mx_pool.specs.declared.serving.Served.{Served}
@@ -16,7 +17,7 @@ use Rattle.mx_pool.proofs.Gathered.{all_begun}
 module _ {L P : Type 0} (left : L → Option (List P)) (service : Service) where
   -- nothing, where there was no memory to begin
   pub begun_none : (IsKind : Ends → Type 0) (pairs : Option (List P)) (starts : ℕ) (seen : Histories)
-      → ∥ ((n : ℕ) × AreBegun left (change pairs pairs) (change starts starts) served.Memory n × HaveServed service IsKind seen n) ∥₁
+      → ∥ ((n : ℕ) × AreBegun left (change pairs pairs) (change starts starts) (served.Memory refused_memory) n × HaveServed service IsKind seen n) ∥₁
   begun_none IsKind pairs starts seen = ∣ (0, record { starts_are = refl; taken = λ tells. taken_none pairs }, ([], refl, tt)) ∣₁
 
   -- all that the book counts, where the share has all parts

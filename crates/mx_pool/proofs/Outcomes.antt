@@ -5,6 +5,7 @@ use Rattle.std.proofs.KnownBytes.{Appends-trans}
 use Rattle.mx_outside.specs.Causes.{Rose}
 use Rattle.mx_outside.specs.Moves.{IsLonger}
 use Rattle.mx_engine.specs.declared.held.EnginePass.{EnginePass}
+use Rattle.mx_ids.specs.Memory.{refused_memory}
 use Rattle.mx_ids.specs.declared.users.Users.{Users}
 use Rattle.mx_users.specs.UsersFile.{users_in}
 use Rattle.mx_serve.specs.Sessions.{AppendsPart, InputFaults, OutputFaults}
@@ -15,7 +16,7 @@ use Rattle.mx_pool.specs.declared.status.Status.{Status}
 use Rattle.mx_pool.specs.declared.status.Status.TheVariants as status
 use Rattle.mx_pool.specs.Lines.{Tells, line_of, shown}
 use Rattle.mx_pool.specs.Serving.{IsServerStatus}
-use Rattle.mx_pool.specs.Connections.{Change}
+use Rattle.mx_pool.specs.Connections.{Change, Clocked}
 use Rattle.mx_pool.specs.Runs.{HasRisen, HasUsers, IsBroken, IsCause, IsPrinted, IsRan, IsServerEnd, IsShort, IsUsage, Prints, RanMode, RanPipe, ServesUsers, TellsAt, TellsPipe, TellsServer, World, status_of, users_limit}
 use Rattle.mx_words.specs.Words.{Help, Meaning, Refused, Said, Says, Version, Wrong}
 use Rattle.mx_serve.proofs.Served.{some-more}
@@ -40,7 +41,7 @@ ended_outside reads writes end.Cut i o is = absurd cc
 ended_outside reads writes end.Refused i o is = absurd cc
 ended_outside reads writes end.ReadFault i o is = inl i.1
 ended_outside reads writes end.WriteFault i o is = inr o.1
-ended_outside reads writes end.Memory i o is = absurd cc
+ended_outside reads writes (end.Memory _) i o is = absurd cc
 
 pipe_outside : (said : Said) (w : World) (s : Status) (c : Option (Ended × EnginePass)) → RanPipe said w s c → s ≡ status.Outside → HasRisen w.file_faults ⊎ (HasRisen w.read_faults ⊎ HasRisen w.write_faults)
 pipe_outside said w s None r is = inl (subst (IsCause (w.file said.users) w.file_faults) is r.1)
@@ -51,13 +52,13 @@ mode_outside None said w s c r is = pipe_outside said w s c r is
 mode_outside (Some address) said w s c r is = inl (subst (IsServerEnd (w.file said.users) w.file_faults) is r.2)
 
 -- no run ends with both
-memory_outside : (s : Status) → s ≡ status.Memory → s ≡ status.Outside → ⊥
+memory_outside : (s : Status) → s ≡ status.Memory refused_memory → s ≡ status.Outside → ⊥
 memory_outside s memory is = other (sym memory ∙ is)
   where
-    other : ◌≡◌ {A = Status} status.Memory status.Outside → ⊥
+    other : ◌≡◌ {A = Status} (status.Memory refused_memory) status.Outside → ⊥
     other e = cc
 
-refused_outside : (s : Status) → (s ≡ status.Usage) ⊎ (s ≡ status.Memory) → s ≡ status.Outside → ⊥
+refused_outside : (s : Status) → (s ≡ status.Usage) ⊎ (s ≡ status.Memory refused_memory) → s ≡ status.Outside → ⊥
 refused_outside s (inl usage) is = other (sym usage ∙ is)
   where
     other : ◌≡◌ {A = Status} status.Usage status.Outside → ⊥
@@ -93,7 +94,7 @@ ended_usage end.Cut is = cc
 ended_usage end.Refused is = cc
 ended_usage end.ReadFault is = cc
 ended_usage end.WriteFault is = cc
-ended_usage end.Memory is = cc
+ended_usage (end.Memory _) is = cc
 
 pipe_usage : (said : Said) (w : World) (s : Status) (c : Option (Ended × EnginePass)) → RanPipe said w s c → s ≡ status.Usage → ⊥
 pipe_usage said w s None r is = subst (IsCause (w.file said.users) w.file_faults) is r.1
@@ -103,10 +104,10 @@ mode_usage : (listen : Option (List ℕ)) (said : Said) (w : World) (s : Status)
 mode_usage None said w s c r is = pipe_usage said w s c r is
 mode_usage (Some address) said w s c r is = subst (IsServerEnd (w.file said.users) w.file_faults) is r.2
 
-memory_usage : (s : Status) → s ≡ status.Memory → s ≡ status.Usage → ⊥
+memory_usage : (s : Status) → s ≡ status.Memory refused_memory → s ≡ status.Usage → ⊥
 memory_usage s memory is = other (sym memory ∙ is)
   where
-    other : ◌≡◌ {A = Status} status.Memory status.Usage → ⊥
+    other : ◌≡◌ {A = Status} (status.Memory refused_memory) status.Usage → ⊥
     other e = cc
 
 text_usage : (w : World) (s : Status) (c : Option (Ended × EnginePass)) → IsShort w s c ⊎ IsPrinted w s c → s ≡ status.Usage → ⊥
@@ -152,19 +153,19 @@ too_long None h = tt
 too_long (Some file) h = inl (h, refl)
 
 -- a cause that was told, or want of memory for its line
-pub told_cause : (told : Option (List ℕ)) (faults : Change ℕ) (s t : Status) → IsCause told faults s → (t ≡ s) ⊎ (t ≡ status.Memory) → IsCause told faults t
+pub told_cause : (told : Option (List ℕ)) (faults : Change ℕ) (s t : Status) → IsCause told faults s → (t ≡ s) ⊎ (t ≡ status.Memory refused_memory) → IsCause told faults t
 told_cause told faults s t cause (inl same) = subst (IsCause told faults) (sym same) cause
 told_cause told faults s t cause (inr memory) = subst (IsCause told faults) (sym memory) tt
 
 -- the line of a status that only memory can be in the place of
-pub same_memory : (s : Status) (a b : Option (List ℕ)) → s ≡ status.Memory → line_of s a ≡ line_of s b
+pub same_memory : (s : Status) (a b : Option (List ℕ)) → s ≡ status.Memory refused_memory → line_of s a ≡ line_of s b
 same_memory s a b is = subst (λ t. line_of t a ≡ line_of t b) (sym is) refl
 
 -- what was told in mode `pipe` once the users were read
-pub tells_served : (users : Users) (workers limit : ℕ) (left written : Change (Option (List ℕ))) (reads writes reading : Change ℕ) (s : Status) (c : Option (Ended × EnginePass))
-    → ServesUsers users workers limit left written reads writes reading s c → (file : List ℕ) (old new : Option (List ℕ)) (f h : ℕ) → Tells old new f h (line_of s None) → TellsPipe file c old new f h s
-tells_served users workers limit left written reads writes reading s None r file old new f h told = subst (λ l. Tells old new f h l) (same_memory s None (Some (shown file)) r.0) told
-tells_served users workers limit left written reads writes reading s (Some c) r file old new f h told = told
+pub tells_served : (users : Users) (workers limit : ℕ) (left written : Change (Option (List ℕ))) (reads writes : Change ℕ) (clock : Change Clocked) (s : Status) (c : Option (Ended × EnginePass))
+    → ServesUsers users workers limit left written reads writes clock s c → (file : List ℕ) (old new : Option (List ℕ)) (f h : ℕ) → Tells old new f h (line_of s None) → TellsPipe file c old new f h s
+tells_served users workers limit left written reads writes clock s None r file old new f h told = subst (λ l. Tells old new f h l) (same_memory s None (Some (shown file)) r.0) told
+tells_served users workers limit left written reads writes clock s (Some c) r file old new f h told = told
 
 -- what was told in mode `pipe` where no connection was served
 pub tells_none : (c : Option (Ended × EnginePass)) (s t : Status) (name file : List ℕ) (old new : Option (List ℕ)) (f h : ℕ) → c ≡ None → t ≡ s → name ≡ file
@@ -181,28 +182,28 @@ tells_unread told faults status.RequestStream cause file address old new f h lin
 tells_unread told faults status.Usage cause file address old new f h line = absurd cause
 tells_unread told faults (status.UsersFile n) cause file address old new f h line = inl (line, λ e. cc)
 tells_unread told faults status.Outside cause file address old new f h line = inl (line, λ e. cc)
-tells_unread told faults status.Memory cause file address old new f h line = inl (line, λ e. cc)
+tells_unread told faults (status.Memory _) cause file address old new f h line = inl (line, λ e. cc)
 tells_unread told faults status.Listener cause file address old new f h line = absurd cause
 
 -- a server whose address isn't bound
-pub tells_unbound : (s : Status) → (s ≡ status.Listener) ⊎ (s ≡ status.Memory) → (file address : List ℕ) (old new : Option (List ℕ)) (f h : ℕ)
+pub tells_unbound : (s : Status) → (s ≡ status.Listener) ⊎ (s ≡ status.Memory refused_memory) → (file address : List ℕ) (old new : Option (List ℕ)) (f h : ℕ)
     → Tells old new f h (line_of s (Some (shown address))) → TellsServer file address old new f h s
 tells_unbound s (inl is) file address old new f h line = subst (λ t. TellsServer file address old new f h t) (sym is) (inl (subst (λ t. Tells old new f h (line_of t (Some (shown address)))) is line, λ e. cc))
 tells_unbound s (inr is) file address old new f h line = subst (λ t. TellsServer file address old new f h t) (sym is) (inl (subst (λ t. Tells old new f h (line_of t (Some (shown address)))) is line, λ e. cc))
 
 -- nor is its status any that it may not have
-pub unbound_status : (s : Status) → (s ≡ status.Listener) ⊎ (s ≡ status.Memory) → IsServerStatus s
+pub unbound_status : (s : Status) → (s ≡ status.Listener) ⊎ (s ≡ status.Memory refused_memory) → IsServerStatus s
 unbound_status s (inl is) = subst IsServerStatus (sym is) tt
 unbound_status s (inr is) = subst IsServerStatus (sym is) tt
 
-pub unbound_done : (s : Status) → (s ≡ status.Listener) ⊎ (s ≡ status.Memory) → s ≡ status.Done → ⊥
+pub unbound_done : (s : Status) → (s ≡ status.Listener) ⊎ (s ≡ status.Memory refused_memory) → s ≡ status.Done → ⊥
 unbound_done s (inl is) done = other (sym is ∙ done)
   where
     other : ◌≡◌ {A = Status} status.Listener status.Done → ⊥
     other e = cc
 unbound_done s (inr is) done = other (sym is ∙ done)
   where
-    other : ◌≡◌ {A = Status} status.Memory status.Done → ⊥
+    other : ◌≡◌ {A = Status} (status.Memory refused_memory) status.Done → ⊥
     other e = cc
 
 -- what a server told, where its address and its status stand in other words

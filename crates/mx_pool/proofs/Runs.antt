@@ -6,8 +6,12 @@ use Rattle.mx_ids.specs.declared.users.Users.{Users}
 use Rattle.mx_fold.specs.Lists.{AreLawful, Histories}
 use Rattle.mx_engine.specs.Answers.{Stops, counts_of, nothing}
 use Rattle.mx_aims.specs.Asked.{Site}
+use Rattle.mx_engine.specs.Shown.{Looks, none_made, stores_of}
+use Rattle.mx_engine.specs.Written.{Made}
+use Rattle.mx_engine.specs.declared.held.EnginePass.{EnginePass}
+use Rattle.mx_serve.specs.Tallies.{tally}
 use Rattle.mx_serve.specs.Rooms.{AreValid}
-use Rattle.mx_pool.specs.Connections.{Change, Ends, Service, change}
+use Rattle.mx_pool.specs.Connections.{Change, Clocked, Ends, Service, change}
 use Rattle.mx_pool.specs.Runs.{Arrivals, HasUsers, IsCause, IsIdle, ServesBy, ServesFile, ServesFor, ServesOne, ServesRun, arrivals, run_stops, server_status, service_for, site_for, status_of}
 use Rattle.mx_pool.specs.Serving.{HasServed, IsServerStatus}
 use Rattle.mx_pool.specs.declared.serving.Served.{Served}
@@ -19,27 +23,32 @@ use Rattle.mx_pool.specs.declared.status.Status.TheVariants as status
 use Rattle.mx_words.specs.Words.{Help, Meaning, Refused, Said, Says, Version, Wrong}
 use Rattle.mx_serve.proofs.Chaining.{connections_agree}
 
-module _ (users : Users) (workers limit : ℕ) (left written : Change (Option (List ℕ))) (reads writes reading : Change ℕ) (ended : Ended) (seen : Histories) where
+module _ (users : Users) (workers limit : ℕ) (left written : Change (Option (List ℕ))) (reads writes : Change ℕ) (clock : Change Clocked) (ended : Ended) (p : EnginePass) where
   -- a connection of so many requests from these lists
-  abbrev From : Site → Stops → ℕ → Histories → Type 0
-  From site stops n start = (calls : List Call) × IsServed site stops n (moment [] left.before written.before start reading.before) (moment [] left.after written.after seen reading.after) calls ended.marks ended.end
+  abbrev From : Looks → Site → Stops → ℕ → Histories → Made → Type 0
+  From looks site stops n start made = (calls : List Call) × IsServed site stops n
+      (moment [] left.before written.before start clock.before.last (record { made = made; looks = looks; readings = clock.before.readings }))
+      (moment [] left.after written.after (stores_of p) clock.after.last (tally p clock.after.readings)) calls ended.marks ended.end
 
   -- a connection on a new engine for the users
-  pub serves : (site : Site) (stops : Stops) (n : ℕ) (start : Histories) (s : Status) → site ≡ site_for users workers → stops ≡ run_stops → n ≡ limit → start ≡ nothing → From site stops n start
-      → AreValid seen ended.marks → AreLawful seen → InputFaults ended.end reads.before reads.after → OutputFaults ended.end writes.before writes.after → s ≡ status_of ended.end
-      → ServesOne users workers limit left written reads writes reading s ended seen
-  serves site stops n start s site_is stops_is limit_is empty from valid lawful input output is =
-      let h : From (site_for users workers) run_stops limit nothing =
-      subst (λ l. From (site_for users workers) run_stops limit l) empty (subst (λ k. From (site_for users workers) run_stops k start) limit_is
-      (subst (λ t. From (site_for users workers) t n start) stops_is (subst (λ u. From u stops n start) site_is from))) in
+  pub serves : (site : Site) (stops : Stops) (n : ℕ) (start : Histories) (made : Made) (looks : Looks) (s : Status) → site ≡ site_for users workers → stops ≡ run_stops → n ≡ limit → start ≡ nothing → made ≡ none_made
+      → From looks site stops n start made
+      → AreValid (stores_of p) ended.marks → AreLawful (stores_of p) → InputFaults ended.end reads.before reads.after → OutputFaults ended.end writes.before writes.after → s ≡ status_of ended.end
+      → ServesOne users workers limit left written reads writes clock s ended p
+  serves site stops n start made looks s site_is stops_is limit_is empty none from valid lawful input output is =
+      let h : From looks (site_for users workers) run_stops limit nothing none_made =
+      subst (λ m. From looks (site_for users workers) run_stops limit nothing m) none
+      (subst (λ l. From looks (site_for users workers) run_stops limit l made) empty (subst (λ k. From looks (site_for users workers) run_stops k start made) limit_is
+      (subst (λ t. From looks (site_for users workers) t n start made) stops_is (subst (λ u. From looks u stops n start made) site_is from)))) in
       record {
         calls = h.0;
+        looks = looks;
         served = h.1;
         read_faults = input;
         write_faults = output;
         status_is = is;
         valid = valid;
-        headline = connections_agree (site_for users workers) run_stops seen (counts_of nothing) h.0 ended.marks h.1.turns lawful;
+        headline = connections_agree (site_for users workers) run_stops (stores_of p) (counts_of nothing) h.0 ended.marks h.1.turns lawful;
       }
 
 -- ---- a server
@@ -57,7 +66,7 @@ server_rose A B how s is a b listener = go how a b (sym is ∙ listener)
     go served.Closed a b e = absurd cc
     go served.ListenFailed a b e = inl (a refl)
     go served.StartRefused a b e = inr (b refl)
-    go served.Memory a b e = absurd cc
+    go (served.Memory _) a b e = absurd cc
 
 -- the status of a server is one of a server's
 pub server_is : (how : Served) (s : Status) → s ≡ server_status how → IsServerStatus s
@@ -67,7 +76,7 @@ server_is how s is = subst IsServerStatus (sym is) (go how)
     go served.Closed = tt
     go served.ListenFailed = tt
     go served.StartRefused = tt
-    go served.Memory = tt
+    go (served.Memory _) = tt
 
 -- a server that is done was closed
 pub server_closed : (A : Type 0) (how : Served) (s : Status) → s ≡ server_status how → (how ≡ served.Closed → A) → s ≡ status.Done → A
@@ -77,7 +86,7 @@ server_closed A how s is a done = go how a (sym is ∙ done)
     go served.Closed a e = a refl
     go served.ListenFailed a e = absurd cc
     go served.StartRefused a e = absurd cc
-    go served.Memory a e = absurd cc
+    go (served.Memory _) a e = absurd cc
 
 -- a status with which no server is done
 pub cause_done : (told : Option (List ℕ)) (faults : Change ℕ) (s : Status) → IsCause told faults s → s ≡ status.Done → ⊥

@@ -3,7 +3,7 @@ use Rattle.std.specs.Prelude.{◌≡◌, ℕ, ◌+◌, List, [], Option, length}
 use Rattle.std.specs.List.{AllByRecursion}
 use Rattle.atomic_table.specs.Seated.{TableId}
 use Rattle.mx_aims.specs.Asked.{Site}
-use Rattle.mx_engine.specs.Answers.{Stops, counts_of}
+use Rattle.mx_engine.specs.Answers.{Stops, counts_of, stops_at}
 use Rattle.mx_engine.specs.Shown.{IsKnown, known_of, site_of, stops_of, stores_of}
 use Rattle.mx_engine.specs.declared.answered.Mark.{Mark}
 use Rattle.mx_engine.specs.declared.held.Engine.{Engine}
@@ -13,6 +13,7 @@ use Rattle.mx_front.specs.Shown.{place_of, place_of_pass}
 use Rattle.mx_http.specs.declared.call.Call.{Call}
 use Rattle.mx_serve.specs.Rooms.{AreValid}
 use Rattle.mx_serve.specs.Sessions.{InputFaults, IsServed, OutputFaults, moment}
+use Rattle.mx_serve.specs.Tallies.{Tally}
 use Rattle.mx_serve.specs.Together.{Session}
 use Rattle.mx_serve.specs.declared.ended.End.{End}
 use Rattle.mx_serve.specs.declared.server.Server.{Server}
@@ -39,8 +40,16 @@ ends left written reads writes = record { left = left; written = written; read_f
 abbrev pub ends_by : {A B : Type 0} → (A → Option (List ℕ)) → (B → Option (List ℕ)) → (A → ℕ) → (B → ℕ) → A × B → Ends
 ends_by left written reads writes p = ends (left p.0) (written p.1) (reads p.0) (writes p.1)
 
--- a connection that has ended: its calls with their marks and how it ended, and what its ends told, what its pass had seen and what its
--- clock had read at its beginning and at its end
+-- what a clock tells: its last reading, and its readings so far
+pub record Clocked : Type 0 where
+  pub last : ℕ
+  pub readings : List ℕ
+
+abbrev pub clocked : ℕ → List ℕ → Clocked
+clocked last readings = record { last = last; readings = readings }
+
+-- a connection that has ended: its calls with their marks and how it ended, and what its ends told, what its pass had seen, what its
+-- clock had read last, and what was made, looked at and read at its beginning and at its end
 pub record Connected : Type 0 where
   pub calls : List Call
   pub marks : List Mark
@@ -48,6 +57,7 @@ pub record Connected : Type 0 where
   pub told : Change Ends
   pub seen : Change Histories
   pub reading : Change ℕ
+  pub tally : Change Tally
 
 -- where the streams of an engine lie
 pub record Places : Type 0 where
@@ -65,8 +75,8 @@ pub record Service : Type 0 where
 pub record IsConnected (service : Service) (IsKind : Ends → Type 0) (all : Histories) (c : Connected) : Type 0 where
   pub kind : IsKind c.told.before
   pub served : IsServed service.site service.stops service.limit
-      (moment [] c.told.before.left c.told.before.written c.seen.before c.reading.before)
-      (moment [] c.told.after.left c.told.after.written c.seen.after c.reading.after) c.calls c.marks c.ended
+      (moment [] c.told.before.left c.told.before.written c.seen.before c.reading.before c.tally.before)
+      (moment [] c.told.after.left c.told.after.written c.seen.after c.reading.after c.tally.after) c.calls c.marks c.ended
   pub read_faults : InputFaults c.ended c.told.before.read_faults c.told.after.read_faults
   pub write_faults : OutputFaults c.ended c.told.before.write_faults c.told.after.write_faults
   pub valid : AreValid c.seen.after c.marks
@@ -113,6 +123,6 @@ no_places = record { events = no_table; receipts = no_table; accounts = no_table
 abbrev pub no_service : Service
 no_service = record {
   site = record { users = record { server = []; users = []; devices = [] }; writers = 0 };
-  stops = record { events = 0; receipts = 0; accounts = 0 };
+  stops = stops_at 0;
   limit = 0;
 }

@@ -32,7 +32,7 @@ line_of status.RequestStream about = codes "mxsync: request stream\n"
 line_of status.Usage about = codes "mxsync: usage" ++ end_of about (codes "\n")
 line_of (status.UsersFile line) about = codes "mxsync: users file, line " ++ (decimal line ++ end_of about (limit_text line))
 line_of status.Outside about = codes "mxsync: outside" ++ end_of about (codes ": can't be read\n")
-line_of status.Memory about = codes "mxsync: memory\n"
+line_of (status.Memory _) about = codes "mxsync: memory\n"
 line_of status.Listener about = codes "mxsync: listener" ++ end_of about (codes ": can't be bound\n")
 
 -- the line that names the address at which a server listens

@@ -2,18 +2,19 @@
 use Rattle.std.specs.Prelude.{◌≡◌, ℕ, ◌<◌, ◌≤◌, ◌⊎◌, List, [], ◌++◌, Ok, Err, Option, Some, None, length, IfSome, codes, decimal, ⊤}
 use Rattle.std.specs.Io.KnownBytes.{Keeps, Appends}
 use Rattle.mx_outside.specs.Causes.{Rose}
+use Rattle.mx_ids.specs.Memory.{refused_memory}
 use Rattle.mx_ids.specs.declared.users.Users.{Users}
 use Rattle.mx_http.specs.declared.call.Call.{Call}
 use Rattle.mx_users.specs.UsersFile.{users_in}
 use Rattle.mx_fold.specs.Lists.{Histories}
-use Rattle.mx_engine.specs.Answers.{Stops, nothing}
+use Rattle.mx_engine.specs.Answers.{Stops, nothing, stops_at}
 use Rattle.mx_aims.specs.Asked.{Site}
-use Rattle.mx_engine.specs.Shown.{stores_of}
+use Rattle.mx_engine.specs.Shown.{Looks, none_made, stores_of}
 use Rattle.mx_engine.specs.declared.held.EnginePass.{EnginePass}
 use Rattle.mx_serve.specs.declared.ended.End.{End}
 use Rattle.mx_serve.specs.declared.ended.End.TheVariants as end
 use Rattle.mx_serve.specs.declared.ended.Ended.{Ended}
-use Rattle.mx_pool.specs.Connections.{Change, Ends, Service}
+use Rattle.mx_pool.specs.Connections.{Change, Clocked, Ends, Service}
 use Rattle.mx_pool.specs.Lines.{Tells, TellsTwo, line_of, listening_line, shown}
 use Rattle.mx_pool.specs.Serving.{HasNoneLeft, HasServed}
 use Rattle.mx_words.specs.Words.{Help, Meaning, Refused, Said, Says, Version, Wrong}
@@ -23,6 +24,7 @@ use Rattle.mx_pool.specs.declared.status.Status.{Status}
 use Rattle.mx_pool.specs.declared.status.Status.TheVariants as status
 use Rattle.mx_serve.specs.Chains.{Headline}
 use Rattle.mx_serve.specs.Rooms.{AreValid}
+use Rattle.mx_serve.specs.Tallies.{tally}
 use Rattle.mx_serve.specs.Sessions.{AppendsPart, InputFaults, IsServed, OutputFaults, moment}
 
 -- a users file has at most so many bytes
@@ -30,7 +32,7 @@ abbrev pub users_limit : ℕ
 users_limit = 1048576
 
 -- what a run is given tells: the bytes of the files, the bytes left of the input and those written to the output, and
--- the counts of faults of the three; and the clock's last reading
+-- the counts of faults of the three; and what the clock tells
 pub record World : Type 0 where
   pub file : List ℕ → Option (List ℕ)
   pub left : Change (Option (List ℕ))
@@ -38,7 +40,7 @@ pub record World : Type 0 where
   pub file_faults : Change ℕ
   pub read_faults : Change ℕ
   pub write_faults : Change ℕ
-  pub reading : Change ℕ
+  pub clock : Change Clocked
 
 -- a count of faults rose
 abbrev pub HasRisen : Change ℕ → Type 0
@@ -53,14 +55,14 @@ status_of end.Cut = status.RequestStream
 status_of end.Refused = status.RequestStream
 status_of end.ReadFault = status.Outside
 status_of end.WriteFault = status.Outside
-status_of end.Memory = status.Memory
+status_of (end.Memory m) = status.Memory m
 
 -- the status of a server's end
 abbrev pub server_status : Served → Status
 server_status served.Closed = status.Done
 server_status served.ListenFailed = status.Listener
 server_status served.StartRefused = status.Listener
-server_status served.Memory = status.Memory
+server_status (served.Memory m) = status.Memory m
 
 -- the file is too long, which line 0 tells, or breaks its form first in the line of this number
 abbrev pub IsBroken : List ℕ → ℕ → Type 0
@@ -77,7 +79,7 @@ IsCause told faults status.RequestStream = ⊥
 IsCause told faults status.Usage = ⊥
 IsCause told faults (status.UsersFile line) = IfSome told (λ bytes. IsBroken bytes line)
 IsCause told faults status.Outside = HasRisen faults
-IsCause told faults status.Memory = ⊤
+IsCause told faults (status.Memory _) = ⊤
 IsCause told faults status.Listener = ⊥
 
 -- the engine of a run: so many writers a stream, and no block of a stream is drawn once so many positions were
@@ -85,33 +87,37 @@ abbrev pub site_for : Users → ℕ → Site
 site_for users workers = record { users = users; writers = workers }
 
 abbrev pub run_stops : Stops
-run_stops = record { events = 281474976694272; receipts = 281474976694272; accounts = 281474976694272 }
+run_stops = stops_at 281474976694272
 
--- one connection of so many requests was served for these users, on an engine without a store; `seen` is what its pass has seen in the end
-pub record ServesOne (users : Users) (workers limit : ℕ) (left written : Change (Option (List ℕ))) (reads writes reading : Change ℕ) (s : Status) (ended : Ended) (seen : Histories) : Type 0 where
+-- one connection of so many requests was served for these users, on an engine without a store, by its first pass, with which nothing was made;
+-- what that has seen, made and looked at in the end is the pass's that is given back
+pub record ServesOne (users : Users) (workers limit : ℕ) (left written : Change (Option (List ℕ))) (reads writes : Change ℕ) (clock : Change Clocked) (s : Status) (ended : Ended) (p : EnginePass) : Type 0 where
   pub calls : List Call
-  pub served : IsServed (site_for users workers) run_stops limit (moment [] left.before written.before nothing reading.before) (moment [] left.after written.after seen reading.after) calls ended.marks ended.end
+  pub looks : Looks
+  pub served : IsServed (site_for users workers) run_stops limit
+      (moment [] left.before written.before nothing clock.before.last (record { made = none_made; looks = looks; readings = clock.before.readings }))
+      (moment [] left.after written.after (stores_of p) clock.after.last (tally p clock.after.readings)) calls ended.marks ended.end
   pub read_faults : InputFaults ended.end reads.before reads.after
   pub write_faults : OutputFaults ended.end writes.before writes.after
   pub status_is : s ≡ status_of ended.end
-  pub valid : AreValid seen ended.marks
-  pub headline : Headline (site_for users workers) seen calls ended.marks
+  pub valid : AreValid (stores_of p) ended.marks
+  pub headline : Headline (site_for users workers) (stores_of p) calls ended.marks
 
 -- nothing was taken and nothing was written, and the clock wasn't read
-pub record Untouched (left written : Change (Option (List ℕ))) (reading : Change ℕ) : Type 0 where
+pub record Untouched (left written : Change (Option (List ℕ))) (clock : Change Clocked) : Type 0 where
   pub taken : Keeps left.before left.after
   pub put : Keeps written.before written.after
-  pub unread : reading.after ≡ reading.before
+  pub unread : clock.after ≡ clock.before
 
 -- a connection was served for these users, or there was no memory for its engine
-abbrev pub ServesUsers : Users → ℕ → ℕ → Change (Option (List ℕ)) → Change (Option (List ℕ)) → Change ℕ → Change ℕ → Change ℕ → Status → Option (Ended × EnginePass) → Type 0
-ServesUsers users workers limit left written reads writes reading s None = (s ≡ status.Memory) × Untouched left written reading
-ServesUsers users workers limit left written reads writes reading s (Some c) = ServesOne users workers limit left written reads writes reading s c.0 (stores_of c.1)
+abbrev pub ServesUsers : Users → ℕ → ℕ → Change (Option (List ℕ)) → Change (Option (List ℕ)) → Change ℕ → Change ℕ → Change Clocked → Status → Option (Ended × EnginePass) → Type 0
+ServesUsers users workers limit left written reads writes clock s None = (s ≡ status.Memory refused_memory) × Untouched left written clock
+ServesUsers users workers limit left written reads writes clock s (Some c) = ServesOne users workers limit left written reads writes clock s c.0 c.1
 
 -- in mode `pipe`: for the users of the file a connection was served, or none was, and why
 abbrev pub RanPipe : Said → World → Status → Option (Ended × EnginePass) → Type 0
-RanPipe said w s None = Untouched w.left w.written w.reading × IsCause (w.file said.users) w.file_faults s
-RanPipe said w s (Some c) = (users : Users) × HasUsers (w.file said.users) users × ServesOne users said.workers said.requests w.left w.written w.read_faults w.write_faults w.reading s c.0 (stores_of c.1)
+RanPipe said w s None = Untouched w.left w.written w.clock × IsCause (w.file said.users) w.file_faults s
+RanPipe said w s (Some c) = (users : Users) × HasUsers (w.file said.users) users × ServesOne users said.workers said.requests w.left w.written w.read_faults w.write_faults w.clock s c.0 c.1
 
 -- how a server ended, by the bytes of its users file and the count of faults of the files
 abbrev pub IsServerEnd : Option (List ℕ) → Change ℕ → Status → Type 0
@@ -122,14 +128,14 @@ IsServerEnd told faults other = IsCause told faults other
 -- what a run did, by the address of its words: mode `pipe` has none
 abbrev pub RanMode : Option (List ℕ) → Said → World → Status → Option (Ended × EnginePass) → Type 0
 RanMode None said w s connection = RanPipe said w s connection
-RanMode (Some address) said w s connection = (connection ≡ None) × Untouched w.left w.written w.reading × IsServerEnd (w.file said.users) w.file_faults s
+RanMode (Some address) said w s connection = (connection ≡ None) × Untouched w.left w.written w.clock × IsServerEnd (w.file said.users) w.file_faults s
 
 abbrev pub RanBy : Said → World → Status → Option (Ended × EnginePass) → Type 0
 RanBy said w s connection = RanMode said.listen said w s connection
 
 -- nothing was served
 abbrev pub IsUnserved : World → Option (Ended × EnginePass) → Type 0
-IsUnserved w connection = (connection ≡ None) × Untouched w.left w.written w.reading
+IsUnserved w connection = (connection ≡ None) × Untouched w.left w.written w.clock
 
 -- a text was written to the output, or the output failed
 abbrev pub Prints : Change (Option (List ℕ)) → Change ℕ → Status → Type 0
@@ -140,16 +146,16 @@ Prints written writes s = (text : List ℕ) ×
 pub record IsPrinted (w : World) (s : Status) (connection : Option (Ended × EnginePass)) : Type 0 where
   pub none : connection ≡ None
   pub taken : Keeps w.left.before w.left.after
-  pub unread : w.reading.after ≡ w.reading.before
+  pub unread : w.clock.after ≡ w.clock.before
   pub prints : Prints w.written w.write_faults s
 
 -- there was no memory to read the words, or for a text that they ask
 abbrev pub IsShort : World → Status → Option (Ended × EnginePass) → Type 0
-IsShort w s connection = (s ≡ status.Memory) × IsUnserved w connection
+IsShort w s connection = (s ≡ status.Memory refused_memory) × IsUnserved w connection
 
 -- the words aren't of their form
 abbrev pub IsRefused : World → Status → Option (Ended × EnginePass) → Type 0
-IsRefused w s connection = ((s ≡ status.Usage) ⊎ (s ≡ status.Memory)) × IsUnserved w connection
+IsRefused w s connection = ((s ≡ status.Usage) ⊎ (s ≡ status.Memory refused_memory)) × IsUnserved w connection
 
 -- what a run did, by its words
 abbrev pub IsRan : Meaning → World → Status → Option (Ended × EnginePass) → Type 0
@@ -164,8 +170,8 @@ abbrev pub IsUsage : Meaning → Status → Type 0
 IsUsage (Says said) s = s ≡ status.Usage → ⊥
 IsUsage Help s = s ≡ status.Usage → ⊥
 IsUsage Version s = s ≡ status.Usage → ⊥
-IsUsage Refused s = (s ≡ status.Usage) ⊎ (s ≡ status.Memory)
-IsUsage (Wrong why) s = (s ≡ status.Usage) ⊎ (s ≡ status.Memory)
+IsUsage Refused s = (s ≡ status.Usage) ⊎ (s ≡ status.Memory refused_memory)
+IsUsage (Wrong why) s = (s ≡ status.Usage) ⊎ (s ≡ status.Memory refused_memory)
 
 -- in mode `serve` no pair is left, where the listener tells them
 abbrev pub ServesAt : {P : Type 0} → Option (List ℕ) → Option (List P) → Type 0
@@ -229,7 +235,7 @@ number_of status.RequestStream = 1
 number_of status.Usage = 2
 number_of (status.UsersFile line) = 3
 number_of status.Outside = 4
-number_of status.Memory = 5
+number_of (status.Memory _) = 5
 number_of status.Listener = 6
 
 -- the lines of a run in mode `pipe`: where no connection was served, with the name of the users file
@@ -258,7 +264,7 @@ TellsAt (Some address) file connection old new faults_old faults_new s = TellsSe
 -- no memory to read them
 abbrev pub TellsRun : Meaning → Option (Ended × EnginePass) → Option (List ℕ) → Option (List ℕ) → ℕ → ℕ → Status → Type 0
 TellsRun (Says said) connection old new faults_old faults_new s =
-    ((s ≡ status.Memory) × Tells old new faults_old faults_new (line_of s None)) ⊎ TellsAt said.listen said.users connection old new faults_old faults_new s
+    ((s ≡ status.Memory refused_memory) × Tells old new faults_old faults_new (line_of s None)) ⊎ TellsAt said.listen said.users connection old new faults_old faults_new s
 TellsRun Help connection old new faults_old faults_new s = Tells old new faults_old faults_new (line_of s None)
 TellsRun Version connection old new faults_old faults_new s = Tells old new faults_old faults_new (line_of s None)
 TellsRun Refused connection old new faults_old faults_new s = (why : List ℕ) × Tells old new faults_old faults_new (line_of s (Some (shown why)))

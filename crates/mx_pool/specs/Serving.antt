@@ -40,7 +40,7 @@ abbrev pub refused_by : Served → ℕ
 refused_by served.Closed = 0
 refused_by served.ListenFailed = 0
 refused_by served.StartRefused = 1
-refused_by served.Memory = 0
+refused_by (served.Memory _) = 0
 
 -- So many connections were begun: each is a job that was started, and has a pair that was taken. The pair of a job that wasn't started has none
 pub record AreBegun {L P : Type 0} (left : L → Option (List P)) (pairs : Change (Option (List P))) (starts : Change ℕ) (how : Served) (n : ℕ) : Type 0 where
@@ -59,5 +59,5 @@ pub record HasServed {L P : Type 0} (service : Service) (left : L → Option (Li
 abbrev pub IsServerStatus : Status → Type 0
 IsServerStatus status.Done = ⊤
 IsServerStatus status.Listener = ⊤
-IsServerStatus status.Memory = ⊤
+IsServerStatus (status.Memory _) = ⊤
 IsServerStatus other = ⊥

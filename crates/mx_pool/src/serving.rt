@@ -12,6 +12,7 @@ use crate::gathering::{gather, make_seats};
 use crate::pool::Pool;
 use crate::seated::Seating;
 use mx_engine::EnginePass;
+use mx_ids::Memory;
 use mx_outside::{Accepted, Clock, Listener, Spawner, Started};
 use mx_serve::Server;
 use mx_writers::Gate;
@@ -32,7 +33,7 @@ pub enum Served {
     /// A connection's job wasn't started: the connection was dropped.
     StartRefused,
     /// Want of memory.
-    Memory,
+    Memory(Memory),
 }
 
 /// Serves the connections that `listener` gives, each by a job of `spawner` on one of so many seats, each with a pass of the server's
@@ -117,11 +118,13 @@ where
 {
     let (book, mut share) = blank.open::<N>();
     let mut pass = pass;
-    let Ok(made) = make_seats(alloc, &server, &mut pass, &mut share, seats) else {
-        return (Served::Memory, pass);
+    let made = match make_seats(alloc, &server, &mut pass, &mut share, seats) {
+        Ok(made) => made,
+        Err(refused) => return (Served::Memory(refused), pass),
     };
-    let Ok(pool) = Arc::new(alloc, Pool::new(server, made)) else {
-        return (Served::Memory, pass);
+    let pool = match Arc::new(alloc, Pool::new(server, made)) {
+        Ok(pool) => pool,
+        Err(refused) => return (Served::Memory(refused.into()), pass),
     };
     let served = serve_pool(
         rt, alloc, &pool, seats, book, share, &mut pass, listener, spawner, clock,
@@ -200,8 +203,9 @@ where
     ensures begun { AreBegun L.left (change (L.left listener.old) (L.left listener.new)) (change spawner.old.plan.next spawner.new.plan.next) result book.new.total }
 {
     'connections: for _ in rt.forever() {
-        let Ok(theirs) = Arc::try_clone(pool) else {
-            return Served::Memory;
+        let theirs = match Arc::try_clone(pool) {
+            Ok(theirs) => theirs,
+            Err(refused) => return Served::Memory(refused.into()),
         };
         match listener.accept() {
             Accepted::Pair(input, output) => {

@@ -2,7 +2,7 @@
 ghost use Rattle.std.specs.Prelude.{◌≡◌, ◌⊎◌, ◌≤◌, None, Some, IfErr, IfOk, MatchResult, map, string_bytes};
 ghost use Rattle.mx_outside.specs.Causes.{Rose};
 ghost use Rattle.mx_pool.specs.Lines.{Tells, line_of, shown};
-ghost use Rattle.mx_pool.specs.Connections.{change, ends_by};
+ghost use Rattle.mx_pool.specs.Connections.{change, clocked, ends_by};
 ghost use Rattle.mx_pool.specs.Runs.{HasUsers, IsCause, IsRan, IsServerEnd, IsUsage, Prints, RanBy, RanPipe, ServesAll, ServesAt, ServesBy, ServesFile, ServesFor, ServesRun, TellsAt, TellsPipe, TellsRun, TellsServer, arrivals};
 ghost use Rattle.mx_pool.specs.Serving.{HasNoneLeft, IsServerStatus};
 ghost use Rattle.mx_words.specs.Words.{asked_of, said_by};
@@ -80,7 +80,7 @@ where
       file_faults = change (F.faults files.old) (F.faults files.new);
       read_faults = change (S.faults input.old) (S.faults input.new);
       write_faults = change (K.faults output.old) (K.faults output.new);
-      reading = change (C.last clock.old) (C.last clock.new);
+      clock = change (clocked (C.last clock.old) (C.readings clock.old)) (clocked (C.last clock.new) (C.readings clock.new));
     }) result.status result.connection }
     ensures usage { IsUsage (asked_of (map string_bytes words.now)) result.status }
     ensures outside { result.status ≡ Status.Outside → Rose (F.faults files.old) (F.faults files.new) ⊎ (Rose (S.faults input.old) (S.faults input.new) ⊎ Rose (K.faults output.old) (K.faults output.new)) }
@@ -99,7 +99,7 @@ where
         Err(WordsFault::Usage(why)) => {
             unserved(tell_about(alloc, errors, Status::Usage, why.as_str()))
         }
-        Err(WordsFault::Memory) => unserved_for(Status::Memory, errors),
+        Err(WordsFault::Memory(refused)) => unserved_for(Status::Memory(refused.into()), errors),
     }
 }
 
@@ -136,7 +136,7 @@ where
       file_faults = change (F.faults files.old) (F.faults files.new);
       read_faults = change (S.faults input.old) (S.faults input.new);
       write_faults = change (K.faults output.old) (K.faults output.new);
-      reading = change (C.last clock.old) (C.last clock.new);
+      clock = change (clocked (C.last clock.old) (C.readings clock.old)) (clocked (C.last clock.new) (C.readings clock.new));
     }) result.status result.connection }
     ensures closed { result.status ≡ Status.Done → ServesAt (said_by words.now).listen (L.left listener.new) }
     ensures listener { result.status ≡ Status.Listener → Rose (L.faults listener.old) (L.faults listener.new) ⊎ Rose spawner.old.plan.faults spawner.new.plan.faults }
@@ -179,7 +179,7 @@ fn run_pipe<F: Files, S: Source, K: Sink, E: Sink, C: Clock, R: Wait + rt::Clock
       file_faults = change (F.faults files.old) (F.faults files.new);
       read_faults = change (S.faults input.old) (S.faults input.new);
       write_faults = change (K.faults output.old) (K.faults output.new);
-      reading = change (C.last clock.old) (C.last clock.new);
+      clock = change (clocked (C.last clock.old) (C.readings clock.old)) (clocked (C.last clock.new) (C.readings clock.new));
     }) result.status result.connection }
     ensures told { TellsPipe (said_by words.now).users result.connection (E.written errors.old) (E.written errors.new) (E.faults errors.old) (E.faults errors.new) result.status }
 {
@@ -321,7 +321,7 @@ where
             );
             server_status(served)
         }
-        Err(_) => Status::Memory,
+        Err(refused) => Status::Memory(refused),
     }
 }
 
@@ -352,12 +352,12 @@ fn users_of<F: Files>(alloc: Global, name: &str, files: &mut F) -> Result<Direct
         Ok(bytes) => bytes,
         Err(FileFault::Failed) => return Err(Status::Outside),
         Err(FileFault::TooLong) => return Err(Status::UsersFile(0)),
-        Err(FileFault::Memory) => return Err(Status::Memory),
+        Err(FileFault::Memory(refused)) => return Err(Status::Memory(refused.into())),
     };
     match read_users(alloc, bytes.as_slice()) {
         Ok(directory) => Ok(directory),
         Err(UsersFault::Line(line)) => Err(Status::UsersFile(line)),
-        Err(UsersFault::Memory) => Err(Status::Memory),
+        Err(UsersFault::Memory(refused)) => Err(Status::Memory(refused)),
     }
 }
 

@@ -1,8 +1,8 @@
 //! A server for the users of a file.
 ghost use Rattle.std.specs.Prelude.{◌≡◌, ◌≤◌, IfOk};
-ghost use Rattle.mx_engine.specs.Shown.{Ties, site_of, stops_of, stores_of};
+ghost use Rattle.mx_engine.specs.Shown.{Ties, made_of, none_made, site_of, stops_of, stores_of};
 ghost use Rattle.mx_engine.specs.Answers.{nothing};
-ghost use Rattle.mx_pool.specs.Connections.{change};
+ghost use Rattle.mx_pool.specs.Connections.{change, clocked};
 ghost use Rattle.mx_pool.specs.Runs.{ServesUsers, run_stops, site_for};
 
 use crate::status::{Status, status_of};
@@ -35,10 +35,11 @@ pub(crate) fn serve_users<S: Source, K: Sink, C: Clock, R: Wait + rt::Clock>(
     ensures { ServesUsers directory workers limit
         (change (S.left input.old) (S.left input.new)) (change (K.written output.old) (K.written output.new))
         (change (S.faults input.old) (S.faults input.new)) (change (K.faults output.old) (K.faults output.new))
-        (change (C.last clock.old) (C.last clock.new)) result.0 result.1 }
+        (change (clocked (C.last clock.old) (C.readings clock.old)) (clocked (C.last clock.new) (C.readings clock.new))) result.0 result.1 }
 {
-    let Ok((server, mut pass)) = server_for(alloc, directory, workers, limit) else {
-        return (Status::Memory, None);
+    let (server, mut pass) = match server_for(alloc, directory, workers, limit) {
+        Ok(made) => made,
+        Err(refused) => return (Status::Memory(refused), None),
     };
     let ended = serve_connection(rt, alloc, &server, &mut pass, input, output, clock);
     (status_of(ended.end), Some((ended, pass)))
@@ -57,6 +58,7 @@ pub(crate) fn server_for(
     ensures stops { IfOk result (λ r. stops_of r.0.engine ≡ run_stops) }
     ensures limit { IfOk result (λ r. r.0.limit ≡ limit) }
     ensures nothing { IfOk result (λ r. stores_of r.1 ≡ nothing) }
+    ensures made { IfOk result (λ r. made_of r.1 ≡ none_made) }
 {
     let setup = Setup {
         users: directory,

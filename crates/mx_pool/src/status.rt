@@ -3,6 +3,7 @@ ghost use Rattle.std.specs.Prelude.{◌≡◌};
 ghost use Rattle.mx_pool.specs.Runs.{number_of, server_status, status_of};
 
 use crate::serving::Served;
+use mx_ids::Memory;
 use mx_serve::End;
 
 /// How a run ends.
@@ -19,7 +20,7 @@ pub enum Status {
     /// The users file couldn't be read, or the input or the output failed.
     Outside,
     /// Want of memory.
-    Memory,
+    Memory(Memory),
     /// The listener failed, or the spawner refused a connection's job.
     Listener,
 }
@@ -35,7 +36,7 @@ impl Status {
             Status::Usage => 2,
             Status::UsersFile(_) => 3,
             Status::Outside => 4,
-            Status::Memory => 5,
+            Status::Memory(_) => 5,
             Status::Listener => 6,
         }
     }
@@ -49,7 +50,7 @@ pub(crate) fn status_of(end: End) -> Status
         End::Closed | End::Asked => Status::Done,
         End::Full | End::Cut | End::Refused => Status::RequestStream,
         End::ReadFault | End::WriteFault => Status::Outside,
-        End::Memory => Status::Memory,
+        End::Memory(refused) => Status::Memory(refused),
     }
 }
 
@@ -60,6 +61,6 @@ pub(crate) fn server_status(served: Served) -> Status
     match served {
         Served::Closed => Status::Done,
         Served::ListenFailed | Served::StartRefused => Status::Listener,
-        Served::Memory => Status::Memory,
+        Served::Memory(refused) => Status::Memory(refused),
     }
 }

@@ -1,5 +1,6 @@
 //! The lines to the error stream.
 ghost use Rattle.std.specs.Prelude.{◌≡◌, ◌⊎◌, ◌++◌, Some, IfOk, codes, decimal, option_map, string_bytes};
+ghost use Rattle.mx_ids.specs.Memory.{refused_memory};
 ghost use Rattle.mx_pool.specs.Lines.{Tells, end_of, line_of, listening_line, limit_text, shown};
 
 use crate::status::Status;
@@ -22,7 +23,7 @@ pub fn tell<E: Sink>(errors: &mut E, status: Status, about: Option<&str>)
         Status::Usage => put_line(errors, b"mxsync: usage", about, b"\n"),
         Status::UsersFile(line) => put_users_line(errors, line, about),
         Status::Outside => put_line(errors, b"mxsync: outside", about, b": can't be read\n"),
-        Status::Memory => put_text(errors, b"mxsync: memory\n"),
+        Status::Memory(_) => put_text(errors, b"mxsync: memory\n"),
         Status::Listener => put_line(errors, b"mxsync: listener", about, b": can't be bound\n"),
     }
 }
@@ -35,7 +36,7 @@ pub(crate) fn tell_about<E: Sink>(
     status: Status,
     about: &str,
 ) -> Status
-    ensures status { (result ≡ status) ⊎ (result ≡ Status.Memory) }
+    ensures status { (result ≡ status) ⊎ (result ≡ Status.Memory refused_memory) }
     ensures told { Tells (E.written errors.old) (E.written errors.new) (E.faults errors.old) (E.faults errors.new) (line_of result (Some (shown about.now))) }
 {
     match on_one_line(alloc, about) {
@@ -44,9 +45,10 @@ pub(crate) fn tell_about<E: Sink>(
             drop(about);
             status
         }
-        Err(_) => {
-            tell(errors, Status::Memory, None);
-            Status::Memory
+        Err(refused) => {
+            let short = Status::Memory(refused);
+            tell(errors, short, None);
+            short
         }
     }
 }

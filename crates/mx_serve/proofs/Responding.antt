@@ -12,9 +12,12 @@ use Rattle.mx_wait.specs.declared.names.StreamName.TheVariants.{Accounts, Events
 use Rattle.mx_engine.specs.Answers.{IsAnswered, KeepsAct, KeepsBoth, KeepsEntry, KeepsMarker, KeepsNote, KeepsPut, KeepsReceipt, KeepsWrites, LeavesReceipts, Stops, TellsMarker, act_said, counts_of, filed, of_marker, reading}
 use Rattle.mx_aims.specs.Stored.{EntryAimed, EntryPut, Note, NoteAimed, ReceiptAimed, ReceiptPut, marker_put, receipts_put}
 use Rattle.mx_aims.specs.Asked.{Site}
-use Rattle.mx_engine.specs.Written.{KeepsMark}
+use Rattle.mx_engine.specs.Written.{Bound, KeepsMark}
 use Rattle.mx_engine.specs.declared.answered.Answered.{Answered}
 use Rattle.mx_engine.specs.declared.answered.Mark.{Mark}
+use Rattle.mx_ids.specs.Memory.{refused_memory}
+use Rattle.mx_engine.specs.declared.answered.Unstored.{Unstored}
+use Rattle.mx_engine.specs.declared.answered.Unstored.TheVariants as unstored
 use Rattle.mx_ask.specs.declared.ask.Ask.{Ask}
 use Rattle.mx_ask.specs.declared.ask.Who.{Who}
 use Rattle.mx_ask.specs.declared.said.Said.{Said}
@@ -31,51 +34,52 @@ use Rattle.mx_serve.specs.Exchanges.{closes_after}
 use Rattle.mx_serve.specs.Steps.{Answers, Renders, Replies, Responds, Writes}
 
 -- the mark of an answer for which the engine isn't asked
-abbrev blank : Bool → ℕ → Histories → Mark
+abbrev pub blank : Bool → ℕ → Histories → Mark
 blank memory now lists = record (reading now lists) { memory = memory }
 
 pub idle_blank : (memory : Bool) (now : ℕ) (lists : Histories) → IsIdle (blank memory now lists) (counts_of lists)
-idle_blank memory now lists = record { read = record { lane = refl; own_is = refl; full = refl; told = refl }; marker_is = refl; marker_told_is = refl; same = refl }
+idle_blank memory now lists = record { read = record { lane = refl; own_is = refl; unstored_is = refl; told = refl }; marker_is = refl; marker_told_is = refl; same = refl }
 
 same_response : (status_a status_b : ℕ) (text_a text_b : List ℕ) → status_a ≡ status_b → text_a ≡ text_b → response status_a text_a ≡ response status_b text_b
 same_response status_a status_b text_a text_b p q = λ i. response (p i) (q i)
 
 -- a mark under which memory was wanting
-module _ {I : Type 0} (name : StreamName) (place : Placing I) (k stop : ℕ) (items : List I) (m : Mark) (old new : List (Stored I)) where
-  wanting_mark : KeepsMark name place k stop items m old new → KeepsMark name place k stop items (record m { memory = true }) old new
-  wanting_mark h = record { decided = λ e. absurd cc; placed = h.placed; writer = h.writer; from = h.from; upto = h.upto; all = h.all; stored = h.stored; nothing = λ own e. absurd cc; full = h.full; told = h.told; untold = h.untold }
+module _ {I : Type 0} (name : StreamName) (place : Placing I) (k : ℕ) (bound : Bound) (items : List I) (m : Mark) (old new : List (Stored I)) where
+  wanting_mark : KeepsMark name place k bound items m old new → KeepsMark name place k bound items (record m { memory = true }) old new
+  wanting_mark h = record { decided = λ e. absurd cc; placed = h.placed; writer = h.writer; from = h.from; upto = h.upto; all = h.all; stored = h.stored; nothing = λ own e. absurd cc; full = h.full; lost = h.lost; told = h.told; untold = h.untold }
 
 module _ (site : Site) (stops : Stops) where
   wanting_entry : (m : Mark) (old new : Histories) (w : EntryPut) → KeepsEntry stops m old new w → KeepsEntry stops (record m { memory = true }) old new w
   wanting_entry m old new w h = wanting_mark Accounts _ _ _ _ m old.accounts new.accounts h
 
   wanting_put : (m : Mark) (old new : Histories) (aimed : EntryAimed) → KeepsPut stops m old new aimed → KeepsPut stops (record m { memory = true }) old new aimed
-  wanting_put m old new (Err r) h = record { lane = h.lane; own_is = h.own_is; full = h.full; told = h.told }
+  wanting_put m old new (Err r) h = record { lane = h.lane; own_is = h.own_is; unstored_is = h.unstored_is; told = h.told }
   wanting_put m old new (Ok w) h = wanting_entry m old new w h
 
   wanting_marked : (m : Mark) (old new : Histories) (aimed : ReceiptAimed) → KeepsReceipt stops m old new aimed → KeepsReceipt stops (record m { memory = true }) old new aimed
-  wanting_marked m old new (Err r) h = record { lane = h.lane; own_is = h.own_is; full = h.full; told = h.told }
+  wanting_marked m old new (Err r) h = record { lane = h.lane; own_is = h.own_is; unstored_is = h.unstored_is; told = h.told }
   wanting_marked m old new (Ok w) h = wanting_mark Receipts _ _ _ _ m old.receipts new.receipts h
 
-  wanting_left : (m : Mark) (new : Histories) (w : ReceiptPut) (full : Option ℕ) → LeavesReceipts stops m new w full → LeavesReceipts stops (record m { memory = true }) new w full
+  wanting_left : (m : Mark) (new : Histories) (w : ReceiptPut) (why : Option Unstored) → LeavesReceipts stops m new w why → LeavesReceipts stops (record m { memory = true }) new w why
   wanting_left m new w None h = λ e. absurd cc
-  wanting_left m new w (Some next) h = h
+  wanting_left m new w (Some (unstored.Full next)) h = h
+  wanting_left m new w (Some unstored.Lost) h = h
 
   wanting_marker : (m : Mark) (old new : Histories) (n : Note) (at : Option ℕ) → KeepsMarker stops m old new n at → KeepsMarker stops (record m { memory = true }) old new n at
   wanting_marker m old new n None h = wanting_entry m old new (marker_put n) h
-  wanting_marker m old new n (Some at) h = (wanting_entry (record m { full = None }) old new (marker_put n) h.0, wanting_left m new (receipts_put n) m.full h.1)
+  wanting_marker m old new n (Some at) h = (wanting_entry (record m { unstored = None }) old new (marker_put n) h.0, wanting_left m new (receipts_put n) m.unstored h.1)
 
   wanting_both : (m : Mark) (old new : Histories) (n : Note) (marker : Option (ℕ × ℕ)) → KeepsBoth stops m old new n marker → KeepsBoth stops (record m { memory = true }) old new n marker
   wanting_both m old new n None h = wanting_marker m old new n m.own h
   wanting_both m old new n (Some at) h = (wanting_entry (of_marker m n.writer at) old new (marker_put n) h.0, wanting_marked m old new (Ok (receipts_put n)) h.1)
 
   wanting_note : (m : Mark) (old new : Histories) (aimed : NoteAimed) → KeepsNote stops m old new aimed → KeepsNote stops (record m { memory = true }) old new aimed
-  wanting_note m old new (Err r) h = (record { lane = h.0.lane; own_is = h.0.own_is; full = h.0.full; told = h.0.told }, h.1)
+  wanting_note m old new (Err r) h = (record { lane = h.0.lane; own_is = h.0.own_is; unstored_is = h.0.unstored_is; told = h.0.told }, h.1)
   wanting_note m old new (Ok n) h = wanting_both m old new n m.marker h
 
   wanting_writes : (act : Act) (m : Mark) (old new : Histories) → KeepsWrites stops act m old new → KeepsWrites stops act (record m { memory = true }) old new
-  wanting_writes (Reads reads) m old new h = record { lane = h.lane; own_is = h.own_is; full = h.full; told = h.told }
-  wanting_writes (Sends (Err r)) m old new h = record { lane = h.lane; own_is = h.own_is; full = h.full; told = h.told }
+  wanting_writes (Reads reads) m old new h = record { lane = h.lane; own_is = h.own_is; unstored_is = h.unstored_is; told = h.told }
+  wanting_writes (Sends (Err r)) m old new h = record { lane = h.lane; own_is = h.own_is; unstored_is = h.unstored_is; told = h.told }
   wanting_writes (Sends (Ok w)) m old new h = wanting_mark Events _ _ _ _ m old.events new.events h
   wanting_writes (Files k user filter) m old new h = wanting_entry m old new (filed k user filter) h
   wanting_writes (Puts aims) m old new h = wanting_put m old new (aims (lists_of new).events) h
@@ -115,7 +119,7 @@ module _ (site : Site) (stops : Stops) where
   blank_kept call.Versions now lists = idle_blank true now lists
   blank_kept (call.Refused r) now lists = idle_blank true now lists
   blank_kept (call.Request r) now lists =
-      (none_done stops (asked site now r.who r.ask) now lists lists (record { said = said.NoMemory; mark = blank true now lists }) (all_self lists) refl refl).keeps
+      (none_done stops (asked site now r.who r.ask) now lists lists (record { said = (said.NoMemory refused_memory); mark = blank true now lists }) (all_self lists) refl refl).keeps
 
   -- memory was wanting for what is asked, or for its refusal
   pub wanting_responds : (asks : CallAsked) (last now : ℕ) (lists : Histories) (m : Mark) (status : ℕ) (text : List ℕ) → last ≡ now → m ≡ blank true now lists → status ≡ 503 → text ≡ no_memory_text
@@ -124,7 +128,7 @@ module _ (site : Site) (stops : Stops) where
 
   -- ---- what the engine answers
 
-  told_response : (server : List ℕ) (device : ℕ) (memory : Bool) (s told : Said) → s ≡ cond memory said.NoMemory told
+  told_response : (server : List ℕ) (device : ℕ) (memory : Bool) (s told : Said) → s ≡ cond memory (said.NoMemory refused_memory) told
       → response (said_status s) (said_text server device s) ≡ cond memory (response 503 no_memory_text) (response (said_status told) (said_text server device told))
   told_response server device true s told is = ap (λ x. response (said_status x) (said_text server device x)) is
   told_response server device false s told is = ap (λ x. response (said_status x) (said_text server device x)) is
@@ -138,7 +142,7 @@ module _ (site : Site) (stops : Stops) where
       (record {
         marks = record { now_is = at; seen = h.seen; begins = h.begins; keeps = subst (λ n. KeepsAct stops (act n) a.mark old new) (sym at) h.keeps };
         is = same_response status (said_status a.said) text (said_text site.users.server who.device a.said) r.1 r.2
-            ∙ told_response site.users.server who.device a.mark.memory a.said (act_said new a.mark (act a.mark.now)) (subst (λ n. a.said ≡ cond a.mark.memory said.NoMemory (act_said new a.mark (act n))) (sym at) h.said_is);
+            ∙ told_response site.users.server who.device a.mark.memory a.said (act_said new a.mark (act a.mark.now)) (subst (λ n. a.said ≡ cond a.mark.memory (said.NoMemory refused_memory) (act_said new a.mark (act n))) (sym at) h.said_is);
       })
   answered_responds who ask now old new a m status text h at (inr r) =
       let act = λ (n : ℕ). asked site n who ask in
@@ -182,5 +186,5 @@ module _ (site : Site) (stops : Stops) where
   written limit earlier c now old new m status text from to (step.Last n end.Cut) r w = absurd w
   written limit earlier c now old new m status text from to (step.Last n end.Refused) r w = absurd w
   written limit earlier c now old new m status text from to (step.Last n end.ReadFault) r w = absurd w
-  written limit earlier c now old new m status text from to (step.Last n end.Memory) r w = absurd w
+  written limit earlier c now old new m status text from to (step.Last n (end.Memory _)) r w = absurd w
   written limit earlier c now old new m status text from to (step.Ended e) r w = absurd w

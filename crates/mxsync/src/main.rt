@@ -14,19 +14,20 @@
 use mx_ids::Memory;
 use mx_outside::{HostClock, HostFiles, Spawner, StdErr, StdIn, StdOut, TcpAccept};
 use mx_pool::{Status, run, tell};
+use std::alloc::AllocError;
 use std::env;
 use std::io::ErrorKind;
 use std::process::ExitCode;
 
 fn main(rt: HostRuntime) -> ExitCode {
     let mut errors = StdErr::new(rt.stderr());
-    let Ok(words) = program_words(&rt) else {
-        tell(&mut errors, Status::Memory, None);
-        return ExitCode::from(Status::Memory.number());
+    let words = match program_words(&rt) {
+        Ok(words) => words,
+        Err(refused) => return short(&mut errors, refused),
     };
-    let Ok(mut spawner) = Spawner::in_threads(rt.alloc()) else {
-        tell(&mut errors, Status::Memory, None);
-        return ExitCode::from(Status::Memory.number());
+    let mut spawner = match Spawner::in_threads(rt.alloc()) {
+        Ok(spawner) => spawner,
+        Err(refused) => return short(&mut errors, refused.into()),
     };
     let mut files = HostFiles::new(rt);
     let mut input = StdIn::new(rt.stdin());
@@ -48,12 +49,19 @@ fn main(rt: HostRuntime) -> ExitCode {
     ExitCode::from(ran.status.number())
 }
 
+/// The end of a run for which memory was wanting before it began.
+fn short(errors: &mut StdErr, refused: Memory) -> ExitCode {
+    let status = Status::Memory(refused);
+    tell(errors, status, None);
+    ExitCode::from(status.number())
+}
+
 /// The words after the program's name. One that isn't UTF-8 makes the whole no words at all.
 fn program_words(rt: &HostRuntime) -> Result<Vec<String>, Memory> {
     let mut words = Vec::new(rt.alloc());
     let args = match env::args(rt) {
         Ok(args) => args,
-        Err(error) if error.kind() == ErrorKind::OutOfMemory => return Err(Memory),
+        Err(error) if error.kind() == ErrorKind::OutOfMemory => return Err(AllocError.into()),
         Err(_) => return Ok(words),
     };
     for word in args.skip(1) {

@@ -53,7 +53,7 @@ fn code(said: &Said) -> u64 {
         Said::Refused(Refusal::State(rule)) => 2000 + u64::from(*rule),
         Said::Refused(Refusal::Full(next)) => next.saturating_add(500),
         Said::Refused(_) => 400,
-        Said::NoMemory => 503,
+        Said::NoMemory(_) => 503,
         _ => 200,
     }
 }

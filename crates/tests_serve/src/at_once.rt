@@ -12,13 +12,14 @@ use mx_pool::{Served, serve};
 use mx_serve::Server;
 use mx_users::read_users;
 use std::alloc::Global;
+use std::process::Abort;
 use std::rt;
 use std::sync::{Arc, Wait};
 use std::test::Fail;
 use std::thread::Threads;
 
 /// A call with its answer, and after how many steps it is sent.
-type Turn = (u64, &'static str);
+pub type Turn = (u64, &'static str);
 
 /// Alice makes a room of the writer 0. Her message is the block at 14, which is held until Bob has synced.
 const ALICE: [Turn; 3] = [
@@ -84,7 +85,7 @@ const BOB: [Turn; 6] = [
 ];
 
 /// A connection of these turns.
-fn pair(
+pub fn pair(
     alloc: Global,
     meeting: &Arc<Meeting>,
     turns: &[Turn],
@@ -105,14 +106,15 @@ fn pair(
 }
 
 /// A server on an engine of four writers, of which the block of the first at 14 is held until six steps were made, and a pass.
-fn server(alloc: Global, meeting: Arc<Meeting>) -> Result<(Server<Holding>, EnginePass), Memory>
+fn server(
+    rt: &impl Abort,
+    alloc: Global,
+    meeting: Arc<Meeting>,
+) -> Result<(Server<Holding>, EnginePass), Memory>
     ensures ties { IfOk result (λ r. Ties r.0.engine r.1) }
 {
-    let Ok(users) = read_users(alloc, USERS.as_bytes()) else {
-        return Err(Memory);
-    };
     let setup = Setup {
-        users,
+        users: read_users(alloc, USERS.as_bytes()).expect(rt, "a users file"),
         workers: 4,
         stop: 1000,
     };
@@ -133,7 +135,7 @@ fn server(alloc: Global, meeting: Arc<Meeting>) -> Result<(Server<Holding>, Engi
 }
 
 /// How the connections of Alice and of Bob end.
-fn served<R: Wait + rt::Clock + Threads + Copy + Drop + Send + 'static>(
+fn served<R: Abort + Wait + rt::Clock + Threads + Copy + Drop + Send + 'static>(
     rt: &R,
     alloc: Global,
     meeting: &Arc<Meeting>,
@@ -152,7 +154,7 @@ fn served<R: Wait + rt::Clock + Threads + Copy + Drop + Send + 'static>(
 }
 
 /// How the connections of a listener end, which are served on two seats.
-fn served_on<R: Wait + rt::Clock + Threads + Copy + Drop + Send + 'static>(
+pub fn served_on<R: Abort + Wait + rt::Clock + Threads + Copy + Drop + Send + 'static>(
     rt: &R,
     alloc: Global,
     meeting: &Arc<Meeting>,
@@ -165,14 +167,14 @@ fn served_on<R: Wait + rt::Clock + Threads + Copy + Drop + Send + 'static>(
 }
 
 /// The same on two seats of a new server.
-fn served_by<R: Wait + rt::Clock + Threads + Copy + Drop + Send + 'static>(
+fn served_by<R: Abort + Wait + rt::Clock + Threads + Copy + Drop + Send + 'static>(
     rt: &R,
     alloc: Global,
     meeting: &Arc<Meeting>,
     listener: &mut MemListener<TurnSource, TurnSink>,
     spawner: &mut Spawner,
 ) -> Result<Served, Memory> {
-    let (server, pass) = server(alloc, Arc::try_clone(meeting)?)?;
+    let (server, pass) = server(rt, alloc, Arc::try_clone(meeting)?)?;
     let clock = StepClock::new(1000, 1);
     let (served, _pass) = serve(rt, alloc, server, pass, 2, listener, spawner, &clock);
     Ok(served)

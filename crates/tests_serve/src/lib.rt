@@ -1,11 +1,11 @@
 //! Tests of runs of the program, over sources, sinks and files in memory.
 //!
 //! Most are sessions as tables: a line is a call of a user, and the line below it the answer, status and body. They
-//! show what each route answers, which refusal comes first, how a connection and a run end, and two connections at
-//! once of which one write is held between its draw and its store.
+//! show what each route answers, which refusal comes first, how a connection and a run end, two connections at once of
+//! which one write is held between its draw and its store, and three connections on two seats.
 //!
 //! Begin with `sessions.rt`, which has the form of the tables, then `tables.rt` with `rooms.rt`, and `sync_tables.rt`
-//! with `syncs.rt`. `at_once.rt` has the two connections.
+//! with `syncs.rt`. `at_once.rt` has the two connections, `seats.rt` the three.
 #![tactic(auto)]
 
 #[cfg(test)]
@@ -27,6 +27,8 @@ mod rooms;
 #[cfg(test)]
 mod runs;
 #[cfg(test)]
+mod seats;
+#[cfg(test)]
 mod servers;
 #[cfg(test)]
 mod sessions;
@@ -42,3 +44,5 @@ mod user_data;
 mod user_tables;
 #[cfg(test)]
 mod whole_sink;
+#[cfg(test)]
+mod writers;

@@ -9,17 +9,17 @@ returns-then-has_just-clause-all g c = all_taken _ _ _ c.requires.taken (c.has_j
 pub returns-in_err-parts-clause-taken : goal.returns-in_err-parts-clause-taken
 returns-in_err-parts-clause-taken g c = taken_grows _ _ _ c.requires.taken c.look.ensures.begins
 
-pub advance-requires-clause-begins : goal.advance-requires-clause-begins
-advance-requires-clause-begins g c = begins_shown _ _ _ _ _ c.requires.taken c.look.ensures.begins c.in_ok-parts.ensures.parts
+pub advance_receipts-requires-clause-begins : goal.advance_receipts-requires-clause-begins
+advance_receipts-requires-clause-begins g c = begins_shown _ _ _ _ _ c.requires.taken c.look.ensures.begins c.in_ok-parts.ensures.parts
 
-pub advance-requires-clause-placed : goal.advance-requires-clause-placed
-advance-requires-clause-placed g c = receipts_placed _ _ c.look.new.self.pass.lawful c.in_ok-parts.ensures.parts
+pub advance_receipts-requires-clause-placed : goal.advance_receipts-requires-clause-placed
+advance_receipts-requires-clause-placed g c = receipts_placed _ _ c.look.new.self.pass.lawful c.in_ok-parts.ensures.parts
 
-pub returns-in_err-advance-clause-taken : goal.returns-in_err-advance-clause-taken
-returns-in_err-advance-clause-taken g c = none_taken _ _ c.in_err-advance.ensures.err
+pub returns-in_err-advance_receipts-clause-taken : goal.returns-in_err-advance_receipts-clause-taken
+returns-in_err-advance_receipts-clause-taken g c = none_taken _ _ c.in_err-advance_receipts.ensures.err
 
 pub returns-clause-taken : goal.returns-clause-taken
-returns-clause-taken g c = shown_taken _ _ _ (c.in_ok-advance.ensures.ok ∙ shown_covered _ _ c.in_ok-parts.ensures.parts) c.stores.ensures
+returns-clause-taken g c = shown_taken _ _ _ (c.in_ok-advance_receipts.ensures.ok ∙ shown_covered _ _ c.in_ok-parts.ensures.parts) c.stores.ensures
 
 pub returns-clause-all : goal.returns-clause-all
-returns-clause-all g c = c.in_ok-advance.ensures.ok ∙ shown_covered _ _ c.in_ok-parts.ensures.parts
+returns-clause-all g c = c.in_ok-advance_receipts.ensures.ok ∙ shown_covered _ _ c.in_ok-parts.ensures.parts

@@ -1,4 +1,6 @@
-use Rattle.std.proofs.Common.{subst, sym}
+use Rattle.std.proofs.Common.{ap, refl, subst, sym}
+use Rattle.mx_engine.specs.declared.answered.Mark.{Mark}
+use Rattle.mx_poll.proofs.Readings.{reads_none}
 use Rattle.mx_acts.specs.Acts.{Reads}
 use Rattle.mx_engine.specs.Shown.{stops_of, stores_of}
 use Rattle.mx_engine.proofs.Done.{none_done}
@@ -22,3 +24,9 @@ returns-in-Err-clause-done g c =
     waited_none c.args.engine.now (Reads (said_of c.args.waiting)) c.args.pass.now c.flag.new.self c.no_memory.result c.flag.ensures c.requires.ties
     (none_done (stops_of c.args.engine.now) (Reads (said_of c.args.waiting)) c.args.now (stores_of c.flag.new.self) (stores_of c.flag.new.self) c.no_memory.result (grows_none _)
     c.no_memory.ensures.said c.no_memory.ensures.mark)
+
+pub returns-in-Ok-clause-read : goal.returns-in-Ok-clause-read
+returns-in-Ok-clause-read g c = c.rest-answered.ensures.read c.args.now
+
+pub returns-in-Err-clause-read : goal.returns-in-Err-clause-read
+returns-in-Err-clause-read g c = reads_none _ _ c.args.now c.no_memory.result.mark.now refl (sym (ap (λ (m : Mark). m.now) c.no_memory.ensures.mark))

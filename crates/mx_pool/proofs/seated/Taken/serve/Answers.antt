@@ -1,5 +1,6 @@
 use Rattle.mx_pool.specs.Connections.{change, ends}
 use Rattle.mx_engine.specs.Shown.{stores_of}
+use Rattle.mx_serve.specs.Tallies.{tally}
 use Rattle.mx_engine.proofs.Done.{all_self}
 use Rattle.mx_pool.proofs.Gathered.{at_ties, served_now, ties_at}
 use Rattle.mx_pool.proofs.seated.Taken.serve.Goals as goal
@@ -24,6 +25,7 @@ invariant_of-result-clause-served g c =
       told = change before after;
       seen = change (stores_of seat.pass) (stores_of done.new.pass);
       reading = change (g.C.Clock.last c.args.clock.now) (g.C.Clock.last done.new.clock);
+      tally = change (tally seat.pass (g.C.Clock.readings c.args.clock.now)) (tally done.new.pass (g.C.Clock.readings done.new.clock));
     })
     c.requires.server c.requires.kind done.ensures.served.1.begins
     (λ kind. record {
