@@ -3,12 +3,19 @@
 //! With the words `sends EVENTS COUNT` it prints the milliseconds that so many sends take into a room that has so
 //! many events; with `syncs EVENTS COUNT` those of so many syncs, each of the same ten messages that were sent after
 //! so many events, of which the user has sent a receipt for the last; with `unread EVENTS COUNT` those of the same
-//! syncs without a receipt; and with no words nothing. `bench/sends` and `bench/syncs` run it and print ratios.
+//! syncs without a receipt; with `chain EVENTS COUNT` those of so many syncs that each tell of ten messages sent
+//! since the one before, without a receipt. With `rests SYNCS COUNT` it prints those of so many sends while so many
+//! syncs rest that the sends don't concern, and with `wakes SYNCS COUNT` while as many rest that each send answers.
+//! With no words it prints nothing. `bench/sends`, `bench/syncs` and `bench/rests` run it and print ratios.
 //!
-//! Begin with `room.rt`, which makes the room and measures; `words.rt` reads the words.
+//! Begin with `room.rt`, which makes the room and measures; `rests.rt` has the syncs that rest, `words.rt` reads the
+//! words.
 #![tactic(auto)]
 
+mod rests;
 mod room;
+mod unmeasured;
+mod users;
 mod words;
 
 use crate::room::measure;

@@ -4,6 +4,9 @@ ghost use Rattle.std.specs.Prelude.{◌≡◌, Some, IfOk, slice_get};
 ghost use Rattle.mx_ask.specs.Asks.{IsAsk};
 ghost use Rattle.mx_engine.specs.Shown.{Ties};
 
+use crate::rests::timed_rests;
+use crate::unmeasured::Unmeasured;
+use crate::users::{user_at, users_file};
 use crate::words::{Timed, Wanted};
 use mx_ask::{Ask, FilterAsk, Said, Who};
 use mx_create::wrong_field;
@@ -12,19 +15,17 @@ use mx_event::Txn;
 use mx_ids::{
     Copied, EventId, Memory, RoomId, Seq, SyncToken, Text, write_event_id, write_room_id,
 };
-use mx_json::{Json, Members, read};
+use mx_json::read;
 use mx_outside::Clock;
 use mx_receipt::ReceiptKind;
-use mx_users::{Directory, read_users};
+use mx_users::read_users;
 use mx_writers::Open;
 use std::alloc::Global;
 use std::sync::Wait;
 
-const USERS: &str = "server example.org\nalice A1 tok_a1\n";
-
-/// What the user is answered.
+/// What a user is answered.
 #[derive(Clone, Copy)]
-enum Told {
+pub enum Told {
     Room(RoomId),
     Sent(EventId),
     Synced(SyncToken),
@@ -38,25 +39,25 @@ pub fn measure<R: Wait, C: Clock>(
     alloc: Global,
     clock: &mut C,
     wanted: Wanted,
-) -> Result<u64, Memory> {
-    let (engine, mut pass) = started(alloc)?;
+) -> Result<u64, Unmeasured> {
+    let (engine, mut pass) = started(alloc, wanted.syncs())?;
     let took = measured(rt, alloc, clock, &engine, &mut pass, wanted);
     drop(pass);
     drop(engine);
     took
 }
 
-/// An engine with one user, and a pass.
-fn started(alloc: Global) -> Result<(Engine<Open>, EnginePass), Memory>
+/// An engine with one user and so many others, and a pass.
+fn started(alloc: Global, others: u32) -> Result<(Engine<Open>, EnginePass), Unmeasured>
     ensures ties { IfOk result (λ r. Ties r.0 r.1) }
 {
-    let users = read_users(alloc, USERS.as_bytes()).map_err(|_| Memory)?;
+    let users = read_users(alloc, users_file(alloc, others)?.as_bytes())?;
     let setup = Setup {
         users,
         workers: 1,
         stop: 281_474_976_694_272,
     };
-    engine(alloc, setup, Open)
+    Ok(engine(alloc, setup, Open)?)
 }
 
 /// The same on an engine without a room.
@@ -67,10 +68,10 @@ fn measured<R: Wait, C: Clock>(
     engine: &Engine<Open>,
     pass: &mut EnginePass,
     wanted: Wanted,
-) -> Result<u64, Memory>
+) -> Result<u64, Unmeasured>
     requires ties { Ties engine.now pass.old }
 {
-    let who = who(alloc, engine.users())?;
+    let who = user_at(alloc, engine.users(), 0)?;
     let took = measured_by(rt, alloc, clock, engine, pass, &who, wanted);
     drop(who);
     took
@@ -85,11 +86,16 @@ fn measured_by<R: Wait, C: Clock>(
     pass: &mut EnginePass,
     who: &Who,
     wanted: Wanted,
-) -> Result<u64, Memory>
+) -> Result<u64, Unmeasured>
     requires ties { Ties engine.now pass.old }
 {
     let room = create(rt, alloc, engine, pass, who)?;
-    let took = measured_in(rt, alloc, clock, engine, pass, who, &room, wanted);
+    let took = match wanted.timed {
+        Timed::Rests | Timed::Wakes => {
+            timed_rests(rt, alloc, clock, engine, pass, who, &room, wanted)
+        }
+        _ => measured_in(rt, alloc, clock, engine, pass, who, &room, wanted),
+    };
     drop(room);
     took
 }
@@ -104,17 +110,18 @@ fn measured_in<R: Wait, C: Clock>(
     who: &Who,
     room: &Text,
     wanted: Wanted,
-) -> Result<u64, Memory>
+) -> Result<u64, Unmeasured>
     requires ties { Ties engine.now pass.old }
 {
-    let last = send_all(rt, alloc, engine, pass, who, room, 0, wanted.events)?;
+    let last = send_all(rt, alloc, engine, pass, who, room, 0, wanted.size)?;
     match wanted.timed {
         Timed::Sends => timed_sends(rt, alloc, clock, engine, pass, who, room, wanted),
         Timed::Syncs => {
             read_up_to(rt, alloc, engine, pass, who, room, last)?;
             timed_syncs(rt, alloc, clock, engine, pass, who, room, wanted)
         }
-        Timed::Unread => timed_syncs(rt, alloc, clock, engine, pass, who, room, wanted),
+        Timed::Chain => timed_chain(rt, alloc, clock, engine, pass, who, room, wanted),
+        _ => timed_syncs(rt, alloc, clock, engine, pass, who, room, wanted),
     }
 }
 
@@ -128,7 +135,7 @@ fn timed_sends<R: Wait, C: Clock>(
     who: &Who,
     room: &Text,
     wanted: Wanted,
-) -> Result<u64, Memory>
+) -> Result<u64, Unmeasured>
     requires ties { Ties engine.now pass.old }
 {
     let start = clock.now();
@@ -139,7 +146,7 @@ fn timed_sends<R: Wait, C: Clock>(
         pass,
         who,
         room,
-        wanted.events,
+        wanted.size,
         wanted.count,
     )?;
     Ok(clock.now().saturating_sub(start))
@@ -155,19 +162,19 @@ fn timed_syncs<R: Wait, C: Clock>(
     who: &Who,
     room: &Text,
     wanted: Wanted,
-) -> Result<u64, Memory>
+) -> Result<u64, Unmeasured>
     requires ties { Ties engine.now pass.old }
 {
     let since = sync(rt, alloc, engine, pass, who, None)?;
-    send_all(rt, alloc, engine, pass, who, room, wanted.events, 10)?;
+    send_all(rt, alloc, engine, pass, who, room, wanted.size, 10)?;
     sync(rt, alloc, engine, pass, who, Some(since))?;
     let start = clock.now();
     sync_all(rt, alloc, engine, pass, who, since, wanted.count)?;
     Ok(clock.now().saturating_sub(start))
 }
 
-/// What the user is answered to what it asks.
-fn ask_engine<R: Wait>(
+/// What a user is answered to what it asks.
+pub fn ask_engine<R: Wait>(
     rt: &R,
     alloc: Global,
     engine: &Engine<Open>,
@@ -195,8 +202,8 @@ fn told_by(said: &Said) -> Told {
     }
 }
 
-/// Sends the user's receipt for an event of the room, if there is one. `Memory` where it is refused.
-fn read_up_to<R: Wait>(
+/// Sends the user's receipt for an event of the room, if there is one. `Other` where it is refused.
+pub fn read_up_to<R: Wait>(
     rt: &R,
     alloc: Global,
     engine: &Engine<Open>,
@@ -204,7 +211,7 @@ fn read_up_to<R: Wait>(
     who: &Who,
     room: &Text,
     event: Option<EventId>,
-) -> Result<(), Memory>
+) -> Result<(), Unmeasured>
     requires ties { Ties engine.now pass.old }
     ensures ties { Ties engine.now pass.new }
 {
@@ -214,7 +221,7 @@ fn read_up_to<R: Wait>(
     let ask = receipt_ask(alloc, room, event)?;
     match ask_engine(rt, alloc, engine, pass, who, ask) {
         Told::Done => Ok(()),
-        _ => Err(Memory),
+        _ => Err(Unmeasured::Other),
     }
 }
 
@@ -236,6 +243,48 @@ fn event_text(alloc: Global, event: EventId) -> Result<Text, Memory> {
     Ok(id)
 }
 
+/// The milliseconds of the syncs of a chain and of the sends before them.
+fn timed_chain<R: Wait, C: Clock>(
+    rt: &R,
+    alloc: Global,
+    clock: &mut C,
+    engine: &Engine<Open>,
+    pass: &mut EnginePass,
+    who: &Who,
+    room: &Text,
+    wanted: Wanted,
+) -> Result<u64, Unmeasured>
+    requires ties { Ties engine.now pass.old }
+{
+    let first = sync(rt, alloc, engine, pass, who, None)?;
+    let start = clock.now();
+    sync_on(rt, alloc, engine, pass, who, room, first, wanted)?;
+    Ok(clock.now().saturating_sub(start))
+}
+
+/// The syncs of a chain from a token on, with ten messages before each.
+fn sync_on<R: Wait>(
+    rt: &R,
+    alloc: Global,
+    engine: &Engine<Open>,
+    pass: &mut EnginePass,
+    who: &Who,
+    room: &Text,
+    from: SyncToken,
+    wanted: Wanted,
+) -> Result<(), Unmeasured>
+    requires ties { Ties engine.now pass.old }
+    ensures ties { Ties engine.now pass.new }
+{
+    let mut since = from;
+    'syncs: for number in 0..wanted.count {
+        let first = wanted.size.saturating_add(number.saturating_mul(10));
+        send_all(rt, alloc, engine, pass, who, room, first, 10)?;
+        since = sync(rt, alloc, engine, pass, who, Some(since))?;
+    }
+    Ok(())
+}
+
 /// So many syncs since a token.
 fn sync_all<R: Wait>(
     rt: &R,
@@ -245,7 +294,7 @@ fn sync_all<R: Wait>(
     who: &Who,
     since: SyncToken,
     count: u32,
-) -> Result<(), Memory>
+) -> Result<(), Unmeasured>
     requires ties { Ties engine.now pass.old }
     ensures ties { Ties engine.now pass.new }
 {
@@ -255,7 +304,7 @@ fn sync_all<R: Wait>(
     Ok(())
 }
 
-/// The token of a sync. `Memory` where it is refused.
+/// The token of a sync. `Other` where it is refused.
 fn sync<R: Wait>(
     rt: &R,
     alloc: Global,
@@ -263,7 +312,7 @@ fn sync<R: Wait>(
     pass: &mut EnginePass,
     who: &Who,
     since: Option<SyncToken>,
-) -> Result<SyncToken, Memory>
+) -> Result<SyncToken, Unmeasured>
     requires ties { Ties engine.now pass.old }
     ensures ties { Ties engine.now pass.new }
 {
@@ -275,17 +324,7 @@ fn sync<R: Wait>(
     };
     match ask_engine(rt, alloc, engine, pass, who, ask) {
         Told::Synced(next) => Ok(next),
-        _ => Err(Memory),
-    }
-}
-
-fn who(alloc: Global, directory: &Directory) -> Result<Who, Memory> {
-    match directory.users().users.as_slice() {
-        [user, ..] => Ok(Who {
-            user: user.copy(alloc)?,
-            device: 0,
-        }),
-        [] => Err(Memory),
+        _ => Err(Unmeasured::Other),
     }
 }
 
@@ -293,20 +332,20 @@ fn text(alloc: Global, s: &str) -> Result<Text, Memory> {
     Ok(Text::from_string(String::from_str(alloc, s)?))
 }
 
-/// A room of the user, by its id.
-fn create<R: Wait>(
+/// A room of the user that anybody may join, by its id.
+pub fn create<R: Wait>(
     rt: &R,
     alloc: Global,
     engine: &Engine<Open>,
     pass: &mut EnginePass,
     who: &Who,
-) -> Result<Text, Memory>
+) -> Result<Text, Unmeasured>
     requires ties { Ties engine.now pass.old }
     ensures ties { Ties engine.now pass.new }
 {
     match ask_engine(rt, alloc, engine, pass, who, create_ask(alloc)?) {
-        Told::Room(room) => room_text(alloc, room),
-        _ => Err(Memory),
+        Told::Room(room) => Ok(room_text(alloc, room)?),
+        _ => Err(Unmeasured::Other),
     }
 }
 
@@ -317,16 +356,16 @@ fn room_text(alloc: Global, room: RoomId) -> Result<Text, Memory> {
     Ok(id)
 }
 
-/// What the creation of a room asks.
-fn create_ask(alloc: Global) -> Result<Ask, Memory>
+/// What the creation of a room that anybody may join asks.
+fn create_ask(alloc: Global) -> Result<Ask, Unmeasured>
     ensures { IfOk result IsAsk }
 {
-    let body = Json::Object(Members::new(alloc));
+    let body = read(alloc, b"{\"preset\":\"public_chat\"}")?;
     match wrong_field(&body) {
         None => Ok(Ask::CreateRoom { body }),
         Some(_) => {
             drop(body);
-            Err(Memory)
+            Err(Unmeasured::Other)
         }
     }
 }
@@ -341,7 +380,7 @@ fn send_all<R: Wait>(
     room: &Text,
     first: u32,
     count: u32,
-) -> Result<Option<EventId>, Memory>
+) -> Result<Option<EventId>, Unmeasured>
     requires ties { Ties engine.now pass.old }
     ensures ties { Ties engine.now pass.new }
 {
@@ -353,8 +392,8 @@ fn send_all<R: Wait>(
     Ok(last)
 }
 
-/// Sends a message in a transaction of this number: its id. `Memory` where it isn't stored.
-fn send<R: Wait>(
+/// Sends a message in a transaction of this number: its id. `Other` where it isn't stored.
+pub fn send<R: Wait>(
     rt: &R,
     alloc: Global,
     engine: &Engine<Open>,
@@ -362,26 +401,26 @@ fn send<R: Wait>(
     who: &Who,
     room: &Text,
     number: u64,
-) -> Result<EventId, Memory>
+) -> Result<EventId, Unmeasured>
     requires ties { Ties engine.now pass.old }
     ensures ties { Ties engine.now pass.new }
 {
     let ask = send_ask(alloc, room, number)?;
     match ask_engine(rt, alloc, engine, pass, who, ask) {
         Told::Sent(event) => Ok(event),
-        _ => Err(Memory),
+        _ => Err(Unmeasured::Other),
     }
 }
 
 /// What the send of a message in a transaction of this number asks.
-fn send_ask(alloc: Global, room: &Text, number: u64) -> Result<Ask, Memory>
+fn send_ask(alloc: Global, room: &Text, number: u64) -> Result<Ask, Unmeasured>
     ensures { IfOk result IsAsk }
 {
     Ok(Ask::Send {
         room: room.copy(alloc)?,
         kind: text(alloc, "m.room.message")?,
         txn: txn(alloc, room, number)?,
-        content: read(alloc, b"{\"body\":\"hi\",\"msgtype\":\"m.text\"}").map_err(|_| Memory)?,
+        content: read(alloc, b"{\"body\":\"hi\",\"msgtype\":\"m.text\"}")?,
     })
 }
 

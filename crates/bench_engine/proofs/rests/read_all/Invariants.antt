@@ -1,0 +1,5 @@
+use Rattle.mx_engine.specs.Shown.{Ties}
+use Rattle.bench_engine.proofs.rests.read_all.Given as goal
+
+abbrev pub invariant-users : goal.invariant-users
+invariant-users g l = Ties l.engine l.pass
