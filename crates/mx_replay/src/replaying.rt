@@ -1,0 +1,75 @@
+//! One store that is made again.
+
+ghost use Rattle.std.specs.Prelude.{◌≡◌, ◌+◌, ◌<◌, OnOk};
+ghost use Rattle.mx_front.specs.Shown.{place_of, place_of_pass, seen_by, writers_of};
+ghost use Rattle.mx_writers.specs.Shown.{stream_of};
+ghost use Rattle.mx_replay.specs.Replays.{HasReplayed};
+
+use mx_front::Pass;
+use mx_ids::Memory;
+use mx_writers::{Folds, Open, Refused, Writers, Written};
+use std::alloc::Global;
+use std::sync::Wait;
+
+/// Why a store isn't made again.
+#[derive(Debug, Drop, PartialEq, Eq)]
+pub enum NotReplayed<E> {
+    /// The writer refuses it.
+    Fault(E),
+    /// The writer has stored it before, or stores nothing.
+    Kept,
+    /// It stands at another position, or is not the only store that was made meanwhile.
+    Elsewhere,
+    /// The stream is full.
+    Full,
+    /// Its line differs from the one that it was read of.
+    Lost,
+    /// An allocation was refused.
+    Memory(Memory),
+}
+
+/// Makes a store again: what a writer decides on a draft, at a position. At `Ok` it is the one store that the pass has seen
+/// besides those that it had seen, and these have all stores of its writer that it was decided by. Where others store at the
+/// same time it answers `Elsewhere`, so nobody else is to store meanwhile.
+pub fn replay<F: Folds, R: Wait>(
+    rt: &R,
+    alloc: Global,
+    writers: &Writers<F>,
+    shard: u8,
+    draft: F::Draft,
+    first: u64,
+    pass: &mut Pass<F::Item>,
+) -> Result<(), NotReplayed<F::Fault>>
+    requires shard { shard < writers_of (stream_of writers.now) }
+    requires stream { place_of_pass pass.old ≡ place_of (stream_of writers.now) }
+    ensures stream { place_of_pass pass.new ≡ place_of_pass pass.old }
+    ensures replayed { OnOk result (HasReplayed F.Item.placed F.decides shard first draft (seen_by pass.old) (seen_by pass.new)) }
+{
+    let before = pass.stores();
+    match writers.write_seen(rt, alloc, shard, draft, &Open, pass) {
+        Ok(written) => in_place(&written, first, before, pass.stores()),
+        Err(refused) => Err(cause_of(refused)),
+    }
+}
+
+/// Whether a store was made at a position, and is the only one.
+fn in_place<E>(written: &Written, first: u64, before: u64, after: u64) -> Result<(), NotReplayed<E>>
+    ensures { OnOk result ((0 < written.now.count) × (written.now.first ≡ first) × (after ≡ before + 1)) }
+{
+    if written.count == 0 {
+        return Err(NotReplayed::Kept);
+    }
+    if written.first != first || after <= before || after - before != 1 {
+        return Err(NotReplayed::Elsewhere);
+    }
+    Ok(())
+}
+
+fn cause_of<E>(refused: Refused<E>) -> NotReplayed<E> {
+    match refused {
+        Refused::Fault(fault, _) => NotReplayed::Fault(fault),
+        Refused::Full(..) => NotReplayed::Full,
+        Refused::Lost(_) => NotReplayed::Lost,
+        Refused::Memory(refused) => NotReplayed::Memory(refused),
+    }
+}
