@@ -8,7 +8,6 @@ use Rattle.std.specs.Cmp.Lexicographic.{slice_cmp}
 use Rattle.std.proofs.lemmas.List.Sums.{fold-append}
 use Rattle.std.specs.BTreeMap.{insert_entry}
 use Rattle.std.specs.List.{AllByRecursion, cons_option, list_any}
-use Rattle.std.specs.Option.{option_or}
 use Rattle.std.specs.Map.{values_of}
 use Rattle.std.specs.Ordering.{nat_cmp}
 use Rattle.std.specs.Str.{bytes_eq}
@@ -27,11 +26,11 @@ use Rattle.mx_event.specs.declared.event.Event.{Event}
 use Rattle.mx_event.proofs.Lawfully.{same_is}
 use Rattle.mx_receipt.specs.Receipts as receipt
 use Rattle.mx_receipt.specs.declared.receipt.Receipt.{Receipt}
-use Rattle.mx_window.specs.Lasts.{last_at, last_of}
+use Rattle.mx_window.specs.Lasts.{last_of}
 use Rattle.mx_window.specs.Windows.{stand_from}
 use Rattle.mx_window.proofs.Each.{AllByRecursion-both, AllByRecursion-filter, AllByRecursion-none, AllByRecursion-weaker, list_any-none}
 use Rattle.mx_window.proofs.Intervals.{between-take, between-within}
-use Rattle.mx_window.proofs.Lasts.{is_some-last_of, last_of-append, last_of-none, last_of-some}
+use Rattle.mx_window.proofs.Lasts.{is_some-last_of}
 use Rattle.mx_folding.specs.Parts.{is_cons, picks}
 use Rattle.mx_folding.specs.Sections.{window}
 use Rattle.mx_folding.specs.Visible.{Membership, Join, Invite, Leave, Ban, joined_at}
@@ -80,6 +79,7 @@ use Rattle.mx_sync.specs.declared.sync_reply.LeftRoom.{LeftRoom}
 use Rattle.mx_sync.specs.declared.sync_reply.Reply.{Reply}
 use Rattle.mx_sync.specs.declared.sync_reply.RoomRest.TheVariants as rest
 use Rattle.mx_still.proofs.Resting.{room_says_same, says_some}
+use Rattle.mx_sync.proofs.Reaching.{last_early}
 use Rattle.mx_sync.proofs.Ways.{way_is}
 
 -- ---- lists
@@ -117,20 +117,6 @@ take_within zero n xs h = refl
 take_within (suc m) zero xs h = absurd (omega (arith, h))
 take_within (suc m) (suc n) [] h = refl
 take_within (suc m) (suc n) (x ∷ xs) h = ap (λ l. x ∷ l) (take_within m n xs (omega (arith, h)))
-
--- the last that passes stands among the first items where none passes later
-last_early : {E : Type 0} (at : E → ℕ) (test : E → Bool) (n : ℕ) (xs : List E) → stand_from at 1 xs ≡ true → list_any test (drop n xs) ≡ false
-    → last_position at test xs ≤ n
-last_early at test n xs stands none =
-    let within : AllByRecursion (λ e. (0 < at e) × (at e ≤ n)) (take n xs) =
-    subst (AllByRecursion (λ e. (0 < at e) × (at e ≤ n))) (between-take at n xs stands) (between-within at 0 n xs) in
-    let split : last_of test xs ≡ last_of test (take n xs) =
-    ap (last_of test) (sym (take-append-drop n xs)) ∙ last_of-append test (take n xs) (drop n xs)
-    ∙ ap (λ o. option_or o (last_of test (take n xs))) (last_of-none test (drop n xs) none) in
-    subst (λ o. last_at at 0 o ≤ n) (sym split) (by (last_of test (take n xs)) refl within) where
-      by : (o : Option _) → last_of test (take n xs) ≡ o → AllByRecursion (λ e. (0 < at e) × (at e ≤ n)) (take n xs) → last_at at 0 o ≤ n
-      by None is h = omega arith
-      by (Some e) is h = (last_of-some (λ e. (0 < at e) × (at e ≤ n)) test (take n xs) e h is).1.1
 
 is_cons-map : {E F : Type 0} (f : E → F) (xs : List E) → is_cons (map f xs) ≡ is_cons xs
 is_cons-map f [] = refl

@@ -4,7 +4,7 @@ use Rattle.std.specs.List.{list_any}
 use Rattle.std.specs.Option.{option_copied}
 use Rattle.mx_rest.specs.Servers.{lists_of}
 use Rattle.mx_still.specs.Concerns.{has_member}
-use Rattle.mx_still.proofs.Reaching.{none_more, one_more}
+use Rattle.mx_sync.proofs.Reaching.{none_more, one_more}
 use Rattle.mx_still.proofs.still.receipt_concerns.Goals as goal
 
 pub returns-in-Some : goal.returns-in-Some
