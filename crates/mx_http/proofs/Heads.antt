@@ -1,14 +1,14 @@
 -- What the head parser's answers say of bytes that are at most as many as a head has.
-use Rattle.std.proofs.Common.{◌≡◌, ℕ, ◌+◌, ◌*◌, ◌<◌, ◌≤◌, ◌⊎◌, inl, inr, ⊎_elim, IsTrue, true, IsUtf8, Option, Some, None, Result, Ok, Err, List, [], ◌∷◌, ◌++◌, length, take, drop, sym, ap, subst, ◌∙◌, arith, append-nil, length-append, take-append-drop}
+use Rattle.std.proofs.Common.{◌≡◌, ℕ, ◌+◌, ◌*◌, ◌<◌, ◌≤◌, ◌⊎◌, inl, inr, ⊎_elim, IsTrue, Bool, true, false, if◌then◌else◌, nat_le, nat_lt, codes, IsUtf8, Option, Some, None, Result, Ok, Err, IfErr, List, [], ◌∷◌, ◌++◌, length, take, drop, sym, ap, subst, ◌∙◌, arith, length-append, take-append-drop}
 use Rattle.std.specs.List.{All, flat_map}
 use Rattle.std.proofs.lemmas.Bool.Decides.{nat_tests}
-use Rattle.std.proofs.lemmas.List.{length-take-le, length-map, take_all}
+use Rattle.std.proofs.lemmas.List.{take_all}
 use Rattle.std.proofs.lemmas.List.Elements.{All-weaker}
 use Rattle.std.proofs.lemmas.Str.{IsUtf8-from_ascii}
 use Rattle.std.proofs.lemmas.Str.Ascii.{IsAscii-from_all}
 use Rattle.std.proofs.lemmas.List.Elements.{All-head, All-tail}
 use Rattle.httparse.specs.Grammar.{RequestHead, LineEnd, Field, IsField, crlf, lf, print_end, print_field, print_section, print_blank, print_version, print_request, HasNoRequest, NeverHasRequest, MayBecomeRequest, EndsInTarget, is_token_byte, IsToken}
-use Rattle.httparse.specs.Spans.{RequestExceeds, IsRequestWithin, IsRequestOf, header_bytes, name_and_value, span_bytes}
+use Rattle.httparse.specs.Spans.{RequestExceeds, IsRequestWithin, IsRequestOf, span_bytes}
 use Rattle.httparse.specs.declared.spans.HeaderSpan.{HeaderSpan}
 use Rattle.httparse.specs.declared.spans.RequestSpans.{RequestSpans}
 use Rattle.mx_http.specs.declared.head.Head.{Head}
@@ -16,11 +16,11 @@ use Rattle.mx_http.specs.declared.grammar.Judged.{Judged}
 use Rattle.mx_http.specs.declared.grammar.Judged.TheVariants as judged
 use Rattle.mx_http.specs.declared.fault.HttpFault.{HttpFault}
 use Rattle.mx_http.specs.declared.fault.HttpFault.TheVariants as faults
-use Rattle.mx_http.specs.Fields.{pairs_of, body_size, bearer_of, asks_close}
+use Rattle.mx_http.specs.Fields.{asks_close, bearer_of, body_limit, body_size, length_said, pairs_of, size_of_length, values_of}
 use Rattle.mx_http.specs.Spans.{pairs_at}
-use Rattle.mx_http.specs.Calls.{head_limit, IsBlank, IsOpenHead, HasBadSize, IsFaulty}
-use Rattle.mx_http.specs.Parts.{AreLineEnds, Judges, JudgesNone, HasParts, TakesApart, FindsHead}
-use Rattle.mx_http.proofs.Unique.{HasHead-append}
+use Rattle.mx_http.specs.Calls.{AreLineEnds, HasBadSize, HasFault, IsBlank, IsOpenHead, head_limit}
+use Rattle.mx_http.specs.Parts.{Judges, JudgesNone, HasParts, TakesApart, FindsHead}
+use Rattle.mx_http.proofs.Unique.{HasHead-append, may_not_close, none_from_never}
 
 end_counts : (end : LineEnd) → 1 ≤ length (print_end end)
 end_counts crlf = omega arith
@@ -50,10 +50,6 @@ no_excess bytes room short is over =
     let many : room < length over.3.fields = over.5 in
     omega (arith, short, is, many, head_counts over.3 over.4.0.fields, ap length split, length-append over.0 over.1, ap length over.4.1, length-append (print_request over.3) [], length-append over.0 (print_end lf))
 
--- a head that never comes isn't there
-pub none_from_never : (bytes : List ℕ) → NeverHasRequest bytes → HasNoRequest bytes
-none_from_never bytes never h rest x = never [] h rest (x.0, append-nil bytes ∙ x.1)
-
 pub judges_none : (bytes : List ℕ) (fields : List HeaderSpan) (r : Judged) → NeverHasRequest bytes → JudgesNone bytes r → Judges bytes fields r
 judges_none bytes fields (judged.Whole spans) never h = absurd h
 judges_none bytes fields judged.Open never h =
@@ -72,16 +68,14 @@ token_is_text bytes token =
 
 pub parts_are : (bytes : List ℕ) (fields lines : List HeaderSpan) (spans : RequestSpans) (parts : Head)
     → length bytes ≤ 16384 → IsRequestWithin bytes fields spans → IsRequestOf bytes fields spans
-    → lines ≡ take spans.headers fields → spans.headers ≤ 64
-    → Some parts.size ≡ body_size (pairs_at bytes lines) → parts.method ≡ span_bytes bytes spans.method → parts.target ≡ span_bytes bytes spans.path
+    → lines ≡ take spans.headers fields
+    → Ok parts.size ≡ body_size (pairs_at bytes lines) → parts.method ≡ span_bytes bytes spans.method → parts.target ≡ span_bytes bytes spans.path
     → parts.bearer ≡ bearer_of (pairs_at bytes lines) → parts.close ≡ asks_close spans.version (pairs_at bytes lines) → parts.len ≡ spans.len
     → HasParts bytes parts
-parts_are bytes fields lines spans parts short within whole front few size method target bearer close len =
+parts_are bytes fields lines spans parts short within whole front size method target bearer close len =
     let h = whole.0 in
     let at = whole.1 in
     let pairs : pairs_at bytes lines ≡ pairs_of h.fields = ap (pairs_at bytes) front ∙ at.fields in
-    let count : length h.fields ≡ spans.headers =
-    sym (length-map h.fields name_and_value) ∙ sym (ap length at.fields) ∙ length-map (take spans.headers fields) (header_bytes bytes) ∙ length-take-le spans.headers fields within.section.count_fits in
     let same_method : h.method ≡ parts.method = sym (method ∙ at.method) in
     let same_target : h.target ≡ parts.target = sym (target ∙ at.path) in
     let same_bearer : bearer_of (pairs_of h.fields) ≡ parts.bearer = sym (bearer ∙ ap bearer_of pairs) in
@@ -90,14 +84,74 @@ parts_are bytes fields lines spans parts short within whole front few size metho
       head = h;
       rest = drop spans.len bytes;
       has_head = record { reads = at.reads; short = omega (arith, at.len, within.section.len_fits, short) };
-      has_size = record { few = omega (arith, count, few); said = sym (ap body_size pairs) ∙ sym size };
+      has_size = sym (ap body_size pairs) ∙ sym size;
       len = len ∙ at.len;
       says = λ body i. record { method = same_method i; target = same_target i; bearer = same_bearer i; body = body; close = same_close i };
     }
 
+-- the field lines of a whole head say no size
+pub size_is_bad : (bytes : List ℕ) (fields lines : List HeaderSpan) (spans : RequestSpans) (fault : HttpFault)
+    → length bytes ≤ 16384 → IsRequestWithin bytes fields spans → IsRequestOf bytes fields spans
+    → lines ≡ take spans.headers fields → Err fault ≡ body_size (pairs_at bytes lines) → HasBadSize bytes fault
+size_is_bad bytes fields lines spans fault short within whole front size =
+    let h = whole.0 in
+    let at = whole.1 in
+    let pairs : pairs_at bytes lines ≡ pairs_of h.fields = ap (pairs_at bytes) front ∙ at.fields in
+    record {
+      head = h;
+      rest = drop spans.len bytes;
+      has_head = record { reads = at.reads; short = omega (arith, at.len, within.section.len_fits, short) };
+      says = sym (ap body_size pairs) ∙ sym size;
+    }
+
+-- memory isn't refused by field lines
+pub bad_size_apart : (bytes : List ℕ) (fault : HttpFault) → HasBadSize bytes fault → TakesApart bytes (Err fault)
+bad_size_apart bytes faults.Head x = x
+bad_size_apart bytes faults.HeadTooLong x = x
+bad_size_apart bytes faults.BodyTooLong x = x
+bad_size_apart bytes faults.BadLength x = x
+bad_size_apart bytes faults.Coding x = x
+bad_size_apart bytes faults.Cut x = x
+bad_size_apart bytes faults.ReadFault x = x
+bad_size_apart bytes (faults.Memory _) x = tt
+
+-- ---- the faults of field lines
+
+abbrev IsSizeFault : HttpFault → Type 0
+IsSizeFault faults.BodyTooLong = Unit {0}
+IsSizeFault faults.BadLength = Unit {0}
+IsSizeFault faults.Coding = Unit {0}
+IsSizeFault other = ⊥
+
+either : (b : Bool) (x y : Result ℕ HttpFault) → IfErr x IsSizeFault → IfErr y IsSizeFault → IfErr (if b then x else y) IsSizeFault
+either true x y p q = p
+either false x y p q = q
+
+length_faults : (n : Option ℕ) → IfErr (size_of_length n) IsSizeFault
+length_faults None = tt
+length_faults (Some n) = either (nat_le n body_limit) (Ok n) (Err faults.BodyTooLong) tt tt
+
+size_faults : (pairs : List (List ℕ × List ℕ)) → IfErr (body_size pairs) IsSizeFault
+size_faults pairs =
+    either (nat_lt 0 (length (values_of (codes "transfer-encoding") pairs))) (Err faults.Coding) (size_of_length (length_said (values_of (codes "content-length") pairs))) tt
+    (length_faults (length_said (values_of (codes "content-length") pairs)))
+
+by_size : (bytes : List ℕ) (fault : HttpFault) → IsSizeFault fault → HasBadSize bytes fault → HasFault fault bytes
+by_size bytes faults.Head s x = absurd s
+by_size bytes faults.HeadTooLong s x = absurd s
+by_size bytes faults.BodyTooLong s x = x
+by_size bytes faults.BadLength s x = x
+by_size bytes faults.Coding s x = x
+by_size bytes faults.Cut s x = absurd s
+by_size bytes faults.ReadFault s x = absurd s
+by_size bytes (faults.Memory _) s x = absurd s
+
+bad_size_faults : (bytes : List ℕ) (fault : HttpFault) → HasBadSize bytes fault → HasFault fault bytes
+bad_size_faults bytes fault x = by_size bytes fault (subst (λ r. IfErr r IsSizeFault) x.says (size_faults (pairs_of x.head.fields))) x
+
 -- ---- from the first bytes to all
 
-pub parts_of_all : (bytes : List ℕ) (n : ℕ) (parts : Head) → HasParts (take n bytes) parts → HasParts bytes parts
+parts_of_all : (bytes : List ℕ) (n : ℕ) (parts : Head) → HasParts (take n bytes) parts → HasParts bytes parts
 parts_of_all bytes n parts x = subst (λ l. HasParts l parts) (take-append-drop n bytes) record {
   head = x.head;
   rest = x.rest ++ drop n bytes;
@@ -107,38 +161,33 @@ parts_of_all bytes n parts x = subst (λ l. HasParts l parts) (take-append-drop 
   says = x.says;
 }
 
-pub bad_size_of_all : (bytes : List ℕ) (n : ℕ) → HasBadSize (take n bytes) → IsFaulty bytes
-bad_size_of_all bytes n x = inr (subst HasBadSize (take-append-drop n bytes) record {
+bad_size_of_all : (bytes : List ℕ) (n : ℕ) (fault : HttpFault) → HasBadSize (take n bytes) fault → HasFault fault bytes
+bad_size_of_all bytes n fault x = bad_size_faults bytes fault (subst (λ l. HasBadSize l fault) (take-append-drop n bytes) record {
   head = x.head;
   rest = x.rest ++ drop n bytes;
   has_head = HasHead-append (take n bytes) (drop n bytes) x.head x.rest x.has_head;
-  no_size = x.no_size;
+  says = x.says;
 })
 
-pub open_of_all : (bytes : List ℕ) → length bytes < head_limit → HasNoRequest bytes → MayBecomeRequest bytes ⊎ AreLineEnds bytes → IsOpenHead bytes ⊎ IsBlank bytes
+open_of_all : (bytes : List ℕ) → length bytes < head_limit → HasNoRequest bytes → MayBecomeRequest bytes ⊎ AreLineEnds bytes → IsOpenHead bytes ⊎ IsBlank bytes
 open_of_all bytes short none may = ⊎_elim
     (λ (m : MayBecomeRequest bytes). inl record { short = short; none = none; open_end = m })
     (λ (l : AreLineEnds bytes). inr (short, l))
     may
-
-pub long_is_bad : (bytes : List ℕ) → head_limit ≤ length bytes → HasNoRequest (take head_limit bytes) → IsFaulty bytes
-long_is_bad bytes long none = inl record { none = none; closed = inr long }
-
-pub closed_is_bad : (bytes : List ℕ) → NeverHasRequest (take head_limit bytes) → (EndsInTarget (take head_limit bytes) → ⊥) → (AreLineEnds (take head_limit bytes) → ⊥) → IsFaulty bytes
-closed_is_bad bytes never target lines = inl record {
-  none = none_from_never (take head_limit bytes) never;
-  closed = inl record { never = never; no_target = target; asks = λ b. lines b.1 };
-}
 
 -- ---- the answers of the reader of heads
 
 pub apart_finds : (bytes front : List ℕ) (r : Result (Option Head) HttpFault) → front ≡ take head_limit bytes → TakesApart front r → FindsHead bytes r
 apart_finds bytes front (Ok (Some parts)) e x = parts_of_all bytes head_limit parts (subst (λ l. HasParts l parts) e x)
 apart_finds bytes front (Ok None) e x = absurd x
-apart_finds bytes front (Err faults.Head) e x = bad_size_of_all bytes head_limit (subst HasBadSize e x)
+apart_finds bytes front (Err faults.Head) e x = bad_size_of_all bytes head_limit faults.Head (subst (λ l. HasBadSize l faults.Head) e x)
+apart_finds bytes front (Err faults.HeadTooLong) e x = bad_size_of_all bytes head_limit faults.HeadTooLong (subst (λ l. HasBadSize l faults.HeadTooLong) e x)
+apart_finds bytes front (Err faults.BodyTooLong) e x = bad_size_of_all bytes head_limit faults.BodyTooLong (subst (λ l. HasBadSize l faults.BodyTooLong) e x)
+apart_finds bytes front (Err faults.BadLength) e x = bad_size_of_all bytes head_limit faults.BadLength (subst (λ l. HasBadSize l faults.BadLength) e x)
+apart_finds bytes front (Err faults.Coding) e x = bad_size_of_all bytes head_limit faults.Coding (subst (λ l. HasBadSize l faults.Coding) e x)
+apart_finds bytes front (Err faults.Cut) e x = bad_size_of_all bytes head_limit faults.Cut (subst (λ l. HasBadSize l faults.Cut) e x)
+apart_finds bytes front (Err faults.ReadFault) e x = bad_size_of_all bytes head_limit faults.ReadFault (subst (λ l. HasBadSize l faults.ReadFault) e x)
 apart_finds bytes front (Err (faults.Memory _)) e x = tt
-apart_finds bytes front (Err faults.Cut) e x = absurd x
-apart_finds bytes front (Err faults.ReadFault) e x = absurd x
 
 pub open_finds : (bytes front : List ℕ) (fields : List HeaderSpan) → front ≡ take head_limit bytes → length bytes < head_limit → Judges front fields judged.Open
     → FindsHead bytes (Ok None)
@@ -148,8 +197,16 @@ open_finds bytes front fields e short x =
     (short, open_of_all bytes short now.0 now.1)
 
 pub long_finds : (bytes front : List ℕ) (fields : List HeaderSpan) → front ≡ take head_limit bytes → head_limit ≤ length bytes → Judges front fields judged.Open
-    → FindsHead bytes (Err faults.Head)
-long_finds bytes front fields e long x = long_is_bad bytes long (subst HasNoRequest e x.0)
+    → FindsHead bytes (Err faults.HeadTooLong)
+long_finds bytes front fields e long x =
+    let now = subst (λ l. Judges l fields judged.Open) e x in
+    record {
+      long = long;
+      none = now.0;
+      not_closed = λ c. ⊎_elim (λ (m : MayBecomeRequest (take head_limit bytes)). may_not_close (take head_limit bytes) c m) (λ (l : AreLineEnds (take head_limit bytes)). c.asks l) now.1;
+    }
 
 pub bad_finds : (bytes front : List ℕ) (fields : List HeaderSpan) → front ≡ take head_limit bytes → Judges front fields judged.Bad → FindsHead bytes (Err faults.Head)
-bad_finds bytes front fields e x = let now = subst (λ l. Judges l fields judged.Bad) e x in closed_is_bad bytes now.0 now.1 now.2
+bad_finds bytes front fields e x =
+    let now = subst (λ l. Judges l fields judged.Bad) e x in
+    record { never = now.0; no_target = now.1; asks = now.2 }

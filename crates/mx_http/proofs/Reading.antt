@@ -1,5 +1,5 @@
 -- What a reader's calls do to what is ahead of it.
-use Rattle.std.proofs.Common.{◌≡◌, ℕ, ◌+◌, ◌-◌, ◌<◌, ◌≤◌, inl, inr, Option, Some, None, Ok, Err, IsErrOf, List, ◌++◌, length, take, drop, slice_range, refl, sym, ap, subst, ◌∙◌, arith, append_assoc, length-append, take-append-drop}
+use Rattle.std.proofs.Common.{◌≡◌, ℕ, ◌+◌, ◌-◌, ◌<◌, ◌≤◌, ◌⊎◌, inl, inr, ⊎_elim, Option, Some, None, Result, Ok, Err, List, ◌++◌, length, take, drop, slice_range, sym, ap, subst, ◌∙◌, arith, append_assoc, length-append, take-append-drop}
 use Rattle.std.specs.Io.KnownBytes.{prepend_known, Consumes, Keeps, IsAtEnd}
 use Rattle.std.proofs.lemmas.List.{length-take-le}
 use Rattle.std.proofs.Math.Seq.{take-append-add, drop-append_seam}
@@ -8,9 +8,10 @@ use Rattle.mx_http.specs.declared.call.Call.{Call}
 use Rattle.mx_http.specs.declared.head.Head.{Head}
 use Rattle.mx_http.specs.declared.fault.HttpFault.{HttpFault}
 use Rattle.mx_http.specs.declared.fault.HttpFault.TheVariants as faults
-use Rattle.mx_http.specs.Calls.{HasSize, IsCall, IsBlank, IsUnfinished}
-use Rattle.mx_http.specs.Parts.{HasParts, GivesHead, with_body}
-use Rattle.mx_http.specs.Reads.{Reads}
+use Rattle.mx_http.specs.Calls.{HasSize, IsBlank, IsCall, IsOpenHead, IsUnfinished}
+use Rattle.mx_http.specs.Parts.{EndsWith, FindsHead, GivesHead, HasParts, Lacks, with_body}
+use Rattle.mx_http.specs.Reads.{CountsFault, CountsReadFault, Fails, Reads}
+use Rattle.mx_http.specs.Window.{IsFillFault}
 use Rattle.mx_http.proofs.Unique.{HasHead-append, not_blank}
 
 -- ---- one request
@@ -46,12 +47,84 @@ body_cut held parts x short = (
 )
 
 pub body_failed : (first new left : Option (List ℕ)) (held : List ℕ) (parts : Head) (e : HttpFault) → Keeps first new → HasParts held parts
-    → (IsErrOf {T = Unit {0}} (Err e) faults.Head → ⊥) → (IsErrOf {T = Unit {0}} (Err e) faults.Cut → (length held < parts.len + parts.size) × IsAtEnd left)
-    → (IsErrOf {T = Unit {0}} (Err e) faults.ReadFault → length held < parts.len + parts.size) → Reads first new held left (Err e)
-body_failed first new left held parts faults.Head p x a b f = absurd (a refl)
-body_failed first new left held parts faults.Cut p x a b f = let cut = b refl in let short = body_cut held parts x cut.0 in (p, short.0, short.1, cut.1)
-body_failed first new left held parts faults.ReadFault p x a b f = (p, inr (body_cut held parts x (f refl)).0)
-body_failed first new left held parts (faults.Memory _) p x a b f = p
+    → Lacks held (parts.len + parts.size) left e → Reads first new held left (Err e)
+body_failed first new left held parts faults.Head p x l = absurd l
+body_failed first new left held parts faults.HeadTooLong p x l = absurd l
+body_failed first new left held parts faults.BodyTooLong p x l = absurd l
+body_failed first new left held parts faults.BadLength p x l = absurd l
+body_failed first new left held parts faults.Coding p x l = absurd l
+body_failed first new left held parts faults.Cut p x l = let short = body_cut held parts x l.0 in (p, (short.0, short.1, l.1))
+body_failed first new left held parts faults.ReadFault p x l = (p, inr (body_cut held parts x l).0)
+body_failed first new left held parts (faults.Memory _) p x l = (p, tt)
+
+-- ---- one head
+
+-- no head may be answered
+pub found_fails : (held : List ℕ) (left : Option (List ℕ)) (e : HttpFault) → FindsHead held (Err e) → Fails held left e
+found_fails held left faults.Head x = x
+found_fails held left faults.HeadTooLong x = x
+found_fails held left faults.BodyTooLong x = x
+found_fails held left faults.BadLength x = x
+found_fails held left faults.Coding x = x
+found_fails held left faults.Cut x = absurd x
+found_fails held left faults.ReadFault x = absurd x
+found_fails held left (faults.Memory _) x = tt
+
+-- the source failed where no head was whole yet
+pub fill_fails : (held : List ℕ) (left : Option (List ℕ)) (e : HttpFault) → IsOpenHead held ⊎ IsBlank held → IsFillFault e → Fails held left e
+fill_fails held left faults.Head o x = absurd x
+fill_fails held left faults.HeadTooLong o x = absurd x
+fill_fails held left faults.BodyTooLong o x = absurd x
+fill_fails held left faults.BadLength o x = absurd x
+fill_fails held left faults.Coding o x = absurd x
+fill_fails held left faults.Cut o x = absurd x
+fill_fails held left faults.ReadFault o x = ⊎_elim (λ (h : IsOpenHead held). inr (inl h)) (λ (b : IsBlank held). inl b) o
+fill_fails held left (faults.Memory _) o x = tt
+
+-- or where more was wanted
+pub fill_lacks : (held : List ℕ) (wanted : ℕ) (left : Option (List ℕ)) (e : HttpFault) → length held < wanted → IsFillFault e → Lacks held wanted left e
+fill_lacks held wanted left faults.Head short x = absurd x
+fill_lacks held wanted left faults.HeadTooLong short x = absurd x
+fill_lacks held wanted left faults.BodyTooLong short x = absurd x
+fill_lacks held wanted left faults.BadLength short x = absurd x
+fill_lacks held wanted left faults.Coding short x = absurd x
+fill_lacks held wanted left faults.Cut short x = absurd x
+fill_lacks held wanted left faults.ReadFault short x = short
+fill_lacks held wanted left (faults.Memory _) short x = tt
+
+-- the source has ended
+pub ended_gives : (held : List ℕ) (left : Option (List ℕ)) (r : Result (Option Head) HttpFault) → IsAtEnd left → EndsWith held r → GivesHead held left r
+ended_gives held left (Ok (Some parts)) end x = absurd x
+ended_gives held left (Ok None) end x = (x, end)
+ended_gives held left (Err faults.Head) end x = absurd x
+ended_gives held left (Err faults.HeadTooLong) end x = absurd x
+ended_gives held left (Err faults.BodyTooLong) end x = absurd x
+ended_gives held left (Err faults.BadLength) end x = absurd x
+ended_gives held left (Err faults.Coding) end x = absurd x
+ended_gives held left (Err faults.Cut) end x = (x.0, x.1, end)
+ended_gives held left (Err faults.ReadFault) end x = absurd x
+ended_gives held left (Err (faults.Memory _)) end x = absurd x
+
+pub ended_counts : (held : List ℕ) (before now : ℕ) (r : Result (Option Head) HttpFault) → now ≡ before → EndsWith held r → CountsReadFault r before now
+ended_counts held before now (Ok found) same x = same
+ended_counts held before now (Err faults.Head) same x = same
+ended_counts held before now (Err faults.HeadTooLong) same x = same
+ended_counts held before now (Err faults.BodyTooLong) same x = same
+ended_counts held before now (Err faults.BadLength) same x = same
+ended_counts held before now (Err faults.Coding) same x = same
+ended_counts held before now (Err faults.Cut) same x = same
+ended_counts held before now (Err faults.ReadFault) same x = tt
+ended_counts held before now (Err (faults.Memory _)) same x = same
+
+pub same_counts : (e : HttpFault) (before now : ℕ) → now ≡ before → CountsFault e before now
+same_counts faults.Head before now same = same
+same_counts faults.HeadTooLong before now same = same
+same_counts faults.BodyTooLong before now same = same
+same_counts faults.BadLength before now same = same
+same_counts faults.Coding before now same = same
+same_counts faults.Cut before now same = same
+same_counts faults.ReadFault before now same = tt
+same_counts (faults.Memory _) before now same = same
 
 -- what a request takes
 front_goes : (first left : Option (List ℕ)) (held : List ℕ) (n : ℕ) → Keeps first (prepend_known held left) → Consumes first (prepend_known (drop n held) left) (take n held)

@@ -6,7 +6,7 @@ use Rattle.std.proofs.lemmas.List.Elements.{All-head, All-tail, All-nil, All-con
 use Rattle.std.proofs.lemmas.List.Sums.{AllPass-from_list_all, list_all-from_AllPass}
 use Rattle.httparse.specs.Grammar.{LineEnd, crlf, lf, print_blank, is_token_byte, is_uri_byte, AllPass, EndsInTarget}
 use Rattle.httparse.proofs.PieceLemmas.{space_ends_token}
-use Rattle.mx_http.specs.Parts.{AreLineEnds}
+use Rattle.mx_http.specs.Calls.{AreLineEnds}
 use Rattle.mx_http.specs.Target.{behind_lines, behind_token, is_target_part, is_target_line, ends_in_target}
 
 -- ---- bytes that end inside a target pass the test

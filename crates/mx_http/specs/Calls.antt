@@ -1,16 +1,14 @@
 -- The requests that bytes begin with, and how the bytes go on, over the grammar of request heads.
-use Rattle.std.specs.Prelude.{◌≡◌, ℕ, ◌<◌, ◌≤◌, ◌⊎◌, ◌||◌, ◌==◌, List, [], ◌∷◌, ◌++◌, Some, length, take, All, IsTrue}
+use Rattle.std.specs.Prelude.{◌≡◌, ℕ, ◌<◌, ◌≤◌, ◌⊎◌, ◌||◌, ◌==◌, List, [], ◌∷◌, ◌++◌, Ok, Err, length, take, All, IsTrue}
 use Rattle.httparse.specs.Grammar.{RequestHead, print_request, ReadsRequest, HasNoRequest, NeverHasRequest, MayBecomeRequest, EndsInTarget}
 use Rattle.mx_http.specs.Fields.{pairs_of, body_size, bearer_of, asks_close}
 use Rattle.mx_http.specs.declared.call.Call.{Call}
+use Rattle.mx_http.specs.declared.fault.HttpFault.{HttpFault}
+use Rattle.mx_http.specs.declared.fault.HttpFault.TheVariants as faults
 
 -- a head has at most so many bytes
 abbrev pub head_limit : ℕ
 head_limit = 16384
-
--- a head has at most so many field lines
-abbrev pub field_limit : ℕ
-field_limit = 64
 
 -- the request of a head and a body
 abbrev pub call_of : RequestHead → List ℕ → Call
@@ -27,10 +25,9 @@ pub record HasHead (bytes : List ℕ) (head : RequestHead) (rest : List ℕ) : T
   pub reads : ReadsRequest bytes head rest
   pub short : length (print_request head) ≤ head_limit
 
--- the head is within the limit of fields, and its body has so many bytes
-pub record HasSize (head : RequestHead) (size : ℕ) : Type 0 where
-  pub few : length head.fields ≤ field_limit
-  pub said : body_size (pairs_of head.fields) ≡ Some size
+-- the field lines of the head say that its body has so many bytes
+abbrev pub HasSize : RequestHead → ℕ → Type 0
+HasSize head size = body_size (pairs_of head.fields) ≡ Ok size
 
 -- these bytes are one whole request, which says this
 pub record IsCall (bytes : List ℕ) (call : Call) : Type 0 where
@@ -45,9 +42,13 @@ abbrev pub AreCalls : List ℕ → List Call → Type 0
 AreCalls bytes [] = bytes ≡ []
 AreCalls bytes (call ∷ calls) = (front : List ℕ) × (after : List ℕ) × (bytes ≡ front ++ after) × IsCall front call × AreCalls after calls
 
+-- each byte is CR or LF
+abbrev pub AreLineEnds : List ℕ → Type 0
+AreLineEnds bytes = All (λ b. IsTrue (b == 13 || b == 10)) bytes
+
 -- fewer bytes than a head may have, all of them CR or LF: nothing is asked
 abbrev pub IsBlank : List ℕ → Type 0
-IsBlank bytes = (length bytes < head_limit) × All (λ b. IsTrue (b == 13 || b == 10)) bytes
+IsBlank bytes = (length bytes < head_limit) × AreLineEnds bytes
 
 -- a head that isn't whole yet, and may become one, or whose target goes on
 pub record IsOpenHead (bytes : List ℕ) : Type 0 where
@@ -73,24 +74,33 @@ IsUnfinished bytes = IsOpenHead bytes ⊎ IsOpenBody bytes
 pub record IsClosed (bytes : List ℕ) : Type 0 where
   pub never : NeverHasRequest bytes
   pub no_target : EndsInTarget bytes → ⊥
-  pub asks : IsBlank bytes → ⊥
+  pub asks : AreLineEnds bytes → ⊥
 
--- no head stands in the first bytes that it may take, nor may one come there: whatever follows is no head, or they
--- are as many as a head may have
-pub record HasBadHead (bytes : List ℕ) : Type 0 where
+-- as many bytes as a head may have hold none, and aren't closed
+pub record HasLongHead (bytes : List ℕ) : Type 0 where
+  pub long : head_limit ≤ length bytes
   pub none : HasNoRequest (take head_limit bytes)
-  pub closed : IsClosed (take head_limit bytes) ⊎ (head_limit ≤ length bytes)
+  pub not_closed : IsClosed (take head_limit bytes) → ⊥
 
--- a head that is whole, and isn't within the limit of fields or says no size of a body
-pub record HasBadSize (bytes : List ℕ) : Type 0 where
+-- a head that is whole, and whose field lines say no size of a body, by this fault
+pub record HasBadSize (bytes : List ℕ) (fault : HttpFault) : Type 0 where
   pub head : RequestHead
   pub rest : List ℕ
   pub has_head : HasHead bytes head rest
-  pub no_size : (size : ℕ) → HasSize head size → ⊥
+  pub says : body_size (pairs_of head.fields) ≡ Err fault
+
+-- no request, whatever follows, by this fault
+abbrev pub HasFault : HttpFault → List ℕ → Type 0
+HasFault faults.Head bytes = IsClosed (take head_limit bytes)
+HasFault faults.HeadTooLong bytes = HasLongHead bytes
+HasFault faults.BodyTooLong bytes = HasBadSize bytes faults.BodyTooLong
+HasFault faults.BadLength bytes = HasBadSize bytes faults.BadLength
+HasFault faults.Coding bytes = HasBadSize bytes faults.Coding
+HasFault other bytes = ⊥
 
 -- no request, whatever follows
 abbrev pub IsFaulty : List ℕ → Type 0
-IsFaulty bytes = HasBadHead bytes ⊎ HasBadSize bytes
+IsFaulty bytes = (fault : HttpFault) × HasFault fault bytes
 
 -- no request stands at the front of these bytes
 abbrev pub IsRest : List ℕ → Type 0

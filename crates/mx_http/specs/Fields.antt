@@ -1,13 +1,16 @@
 -- What the field lines of a request say: names are compared without regard to ASCII case, and
 -- white space around a value is no part of it (RFC 9110, section 5).
-use Rattle.std.specs.Prelude.{ℕ, ◌&&◌, ◌||◌, ◌==◌, List, [], ◌∷◌, Bool, Option, Some, None, map, filter, length, drop, nat_lt, nat_le, if◌then◌else◌, codes}
+use Rattle.std.specs.Prelude.{ℕ, ◌&&◌, ◌||◌, ◌==◌, List, [], ◌∷◌, Bool, Option, Some, None, Result, Ok, Err, map, filter, length, drop, nat_lt, nat_le, if◌then◌else◌, codes}
 use Rattle.std.specs.List.{list_all, list_any, slice_split, starts_with}
 use Rattle.std.specs.Char.{is_ascii_digit}
+use Rattle.std.specs.Option.{option_eq}
 use Rattle.std.specs.Str.{bytes_eq, str_to_ascii_lowercase}
 use Rattle.std.specs.Str.Lossy.{utf8_lossy}
 use Rattle.std.specs.Str.Parse.{digits_value}
 use Rattle.std.specs.Prelude.{nat_eq}
 use Rattle.httparse.specs.Grammar.{Field, field_value, trim_ows}
+use Rattle.mx_http.specs.declared.fault.HttpFault.{HttpFault}
+use Rattle.mx_http.specs.declared.fault.HttpFault.TheVariants as faults
 
 -- the names and the values of the field lines, in order
 abbrev pub pairs_of : List Field → List (List ℕ × List ℕ)
@@ -21,19 +24,42 @@ is_word word bytes = bytes_eq (str_to_ascii_lowercase bytes) word
 abbrev pub values_of : List ℕ → List (List ℕ × List ℕ) → List (List ℕ)
 values_of name pairs = map (λ p. p.1) (filter (λ p. is_word name p.0) pairs)
 
--- 1 to 19 digits that say at most 1 MiB
-abbrev pub is_size : List ℕ → Bool
-is_size value = nat_lt 0 (length value) && nat_le (length value) 19 && list_all is_ascii_digit value && nat_le (digits_value 10 value) 1048576
+-- a body has at most so many bytes
+abbrev pub body_limit : ℕ
+body_limit = 1048576
 
--- the number of bytes of the body: 0 where no field says it, and none where it is said twice or out of form
-abbrev pub size_said : List (List ℕ) → Option ℕ
-size_said [] = Some 0
-size_said (value ∷ []) = if is_size value then Some (digits_value 10 value) else None
-size_said (value ∷ other ∷ more) = None
+-- the number that digits say, where there are digits alone
+abbrev pub number_in : List ℕ → Option ℕ
+number_in value = if list_all is_ascii_digit value then Some (digits_value 10 value) else None
 
--- the same for a request, which must have no transfer coding
-abbrev pub body_size : List (List ℕ × List ℕ) → Option ℕ
-body_size pairs = if nat_lt 0 (length (values_of (codes "transfer-encoding") pairs)) then None else size_said (values_of (codes "content-length") pairs)
+-- the length that 1 to 19 digits say
+abbrev pub length_in : List ℕ → Option ℕ
+length_in value = if nat_lt 0 (length value) && nat_le (length value) 19 then number_in value else None
+
+-- each of the values is a length, and says this one
+abbrev pub all_say : ℕ → List (List ℕ) → Bool
+all_say n values = list_all (λ value. option_eq nat_eq (length_in value) (Some n)) values
+
+-- this length, where each further value says it
+abbrev pub agreed : Option ℕ → List (List ℕ) → Option ℕ
+agreed None more = None
+agreed (Some n) more = if all_say n more then Some n else None
+
+-- the length that the values say, 0 where there is none; none where a value is no length, or two of them differ as numbers
+abbrev pub length_said : List (List ℕ) → Option ℕ
+length_said [] = Some 0
+length_said (value ∷ more) = agreed (length_in value) more
+
+-- the size of a body of this length
+abbrev pub size_of_length : Option ℕ → Result ℕ HttpFault
+size_of_length None = Err faults.BadLength
+size_of_length (Some n) = if nat_le n body_limit then Ok n else Err faults.BodyTooLong
+
+-- the size of the body that field lines say: there is no transfer coding, and one length within the limit
+abbrev pub body_size : List (List ℕ × List ℕ) → Result ℕ HttpFault
+body_size pairs =
+    if nat_lt 0 (length (values_of (codes "transfer-encoding") pairs)) then Err faults.Coding else
+    size_of_length (length_said (values_of (codes "content-length") pairs))
 
 -- the token that follows `Bearer ` in the first value; what isn't UTF-8 there is no user's token, and reads as U+FFFD
 abbrev pub bearer_in : List (List ℕ) → Option (List ℕ)

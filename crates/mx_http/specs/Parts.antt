@@ -1,5 +1,5 @@
 -- The head of a request as the reader takes it apart.
-use Rattle.std.specs.Prelude.{◌≡◌, ℕ, ◌<◌, ◌⊎◌, ◌||◌, ◌==◌, List, Option, Some, None, Result, Ok, Err, IsTrue, All, length}
+use Rattle.std.specs.Prelude.{◌≡◌, ℕ, ◌<◌, ◌⊎◌, List, Option, Some, None, Result, Ok, Err, length}
 use Rattle.std.specs.Io.KnownBytes.{IsAtEnd}
 use Rattle.httparse.specs.Grammar.{RequestHead, print_request, HasNoRequest, NeverHasRequest, MayBecomeRequest, EndsInTarget}
 use Rattle.httparse.specs.Spans.{IsRequestWithin, IsRequestOf}
@@ -10,11 +10,8 @@ use Rattle.mx_http.specs.declared.grammar.Judged.{Judged}
 use Rattle.mx_http.specs.declared.grammar.Judged.TheVariants as judged
 use Rattle.mx_http.specs.declared.fault.HttpFault.{HttpFault}
 use Rattle.mx_http.specs.declared.fault.HttpFault.TheVariants as faults
-use Rattle.mx_http.specs.Calls.{head_limit, call_of, HasHead, HasSize, IsBlank, IsOpenHead, IsUnfinished, IsFaulty, HasBadSize}
-
--- each byte is CR or LF
-abbrev pub AreLineEnds : List ℕ → Type 0
-AreLineEnds bytes = All (λ b. IsTrue (b == 13 || b == 10)) bytes
+use Rattle.mx_http.specs.Calls.{AreLineEnds, HasBadSize, HasFault, HasHead, HasSize, IsBlank, IsOpenHead, IsUnfinished, call_of, head_limit}
+use Rattle.mx_http.specs.Reads.{Fails}
 
 -- a whole head at the front; none yet; or none, whatever follows
 abbrev pub Judges : List ℕ → List HeaderSpan → Judged → Type 0
@@ -41,38 +38,36 @@ pub record HasParts (bytes : List ℕ) (parts : Head) : Type 0 where
   pub len : parts.len ≡ length (print_request head)
   pub says : (body : List ℕ) → call_of head body ≡ with_body parts body
 
--- what the parts of a whole head are, or that it breaks a limit
+-- the parts of a whole head, or that its field lines say no size
 abbrev pub TakesApart : List ℕ → Result (Option Head) HttpFault → Type 0
 TakesApart bytes (Ok (Some parts)) = HasParts bytes parts
 TakesApart bytes (Ok None) = ⊥
-TakesApart bytes (Err faults.Head) = HasBadSize bytes
 TakesApart bytes (Err (faults.Memory _)) = Unit {0}
-TakesApart bytes (Err faults.Cut) = ⊥
-TakesApart bytes (Err faults.ReadFault) = ⊥
+TakesApart bytes (Err fault) = HasBadSize bytes fault
 
--- a whole head at the front; none yet; or none that may be answered
+-- a whole head at the front; none yet; or none, whatever follows
 abbrev pub FindsHead : List ℕ → Result (Option Head) HttpFault → Type 0
 FindsHead bytes (Ok (Some parts)) = HasParts bytes parts
 FindsHead bytes (Ok None) = (length bytes < head_limit) × (IsOpenHead bytes ⊎ IsBlank bytes)
-FindsHead bytes (Err faults.Head) = IsFaulty bytes
 FindsHead bytes (Err (faults.Memory _)) = Unit {0}
-FindsHead bytes (Err faults.Cut) = ⊥
-FindsHead bytes (Err faults.ReadFault) = ⊥
+FindsHead bytes (Err fault) = HasFault fault bytes
 
 -- what bytes at whose front no head is whole are, at the end of the source
 abbrev pub EndsWith : List ℕ → Result (Option Head) HttpFault → Type 0
 EndsWith held (Ok (Some parts)) = ⊥
 EndsWith held (Ok None) = IsBlank held
 EndsWith held (Err faults.Cut) = IsUnfinished held × (IsBlank held → ⊥)
-EndsWith held (Err faults.Head) = ⊥
-EndsWith held (Err faults.ReadFault) = ⊥
-EndsWith held (Err (faults.Memory _)) = ⊥
+EndsWith held (Err other) = ⊥
 
--- a whole head at the front, the end of the source, or a fault; where the source failed no head is whole
+-- a whole head at the front, the end of the source, or a fault
 abbrev pub GivesHead : List ℕ → Option (List ℕ) → Result (Option Head) HttpFault → Type 0
 GivesHead held left (Ok (Some parts)) = HasParts held parts
 GivesHead held left (Ok None) = IsBlank held × IsAtEnd left
-GivesHead held left (Err faults.Head) = IsFaulty held
-GivesHead held left (Err faults.Cut) = IsUnfinished held × (IsBlank held → ⊥) × IsAtEnd left
-GivesHead held left (Err faults.ReadFault) = IsBlank held ⊎ IsUnfinished held
-GivesHead held left (Err (faults.Memory _)) = Unit {0}
+GivesHead held left (Err fault) = Fails held left fault
+
+-- fewer bytes are held than are wanted, by this fault
+abbrev pub Lacks : List ℕ → ℕ → Option (List ℕ) → HttpFault → Type 0
+Lacks held wanted left faults.Cut = (length held < wanted) × IsAtEnd left
+Lacks held wanted left faults.ReadFault = length held < wanted
+Lacks held wanted left (faults.Memory _) = Unit {0}
+Lacks held wanted left other = ⊥

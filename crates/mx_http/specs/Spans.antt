@@ -1,5 +1,5 @@
 -- Field lines that are given by the places of their names and values.
-use Rattle.std.specs.Prelude.{◌≡◌, ℕ, ◌&&◌, List, [], ◌∷◌, Option, Some, None, MatchOption, map, length, All, nat_le, if◌then◌else◌}
+use Rattle.std.specs.Prelude.{◌≡◌, ℕ, List, [], ◌∷◌, Option, Some, None, MatchOption, map, length, All, if◌then◌else◌}
 use Rattle.std.specs.List.{list_all}
 use Rattle.std.specs.Char.{is_ascii_digit}
 use Rattle.std.specs.Str.Parse.{digits_value_after}
@@ -20,7 +20,6 @@ abbrev pub FindsFirst : List ℕ → List ℕ → List HeaderSpan → Option (Li
 FindsFirst name bytes spans found = MatchOption found (values_of name (pairs_at bytes spans) ≡ [])
     (λ f. (values_of name (pairs_at bytes spans) ≡ f.0 ∷ values_of name (pairs_at bytes f.1)) × AreWithin bytes f.1)
 
--- the number that the digits write when they follow those of n, where it is a size of a body
-abbrev pub size_after : ℕ → List ℕ → Option ℕ
-size_after n digits =
-    if list_all is_ascii_digit digits && nat_le (digits_value_after 10 n digits) 1048576 then Some (digits_value_after 10 n digits) else None
+-- the number that digits write when they follow those of n
+abbrev pub number_after : ℕ → List ℕ → Option ℕ
+number_after n digits = if list_all is_ascii_digit digits then Some (digits_value_after 10 n digits) else None

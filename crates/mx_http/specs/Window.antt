@@ -9,11 +9,14 @@ pub record Window : Type 0 where
   pub held : List ℕ
   pub room : ℕ
 
+-- the source failed, or memory was refused
+abbrev pub IsFillFault : HttpFault → Type 0
+IsFillFault faults.ReadFault = Unit {0}
+IsFillFault (faults.Memory _) = Unit {0}
+IsFillFault other = ⊥
+
 -- bytes came from the source to the end of those that were held, or the source has none left, or nothing happened
 abbrev pub Fills : Option (List ℕ) → Option (List ℕ) → List ℕ → List ℕ → Result Bool HttpFault → Type 0
 Fills old new before now (Ok true) = (piece : List ℕ) × (0 < length piece) × (now ≡ before ++ piece) × Consumes old new piece
 Fills old new before now (Ok false) = (now ≡ before) × Keeps old new × IsAtEnd new
-Fills old new before now (Err faults.ReadFault) = (now ≡ before) × Keeps old new
-Fills old new before now (Err (faults.Memory _)) = (now ≡ before) × Keeps old new
-Fills old new before now (Err faults.Head) = ⊥
-Fills old new before now (Err faults.Cut) = ⊥
+Fills old new before now (Err fault) = IsFillFault fault × (now ≡ before) × Keeps old new

@@ -3,10 +3,16 @@ use mx_ids::Memory;
 /// Why no request could be read. After it the reader isn't used again.
 #[derive(Clone, Copy, Debug, PartialEq, Eq)]
 pub enum HttpFault {
-    /// The bytes are no request, whatever follows: no head stands in their first 16,384 and none
-    /// may come there, or the head has more than 64 field lines, a `Transfer-Encoding`, or no one
-    /// `Content-Length` of 1 to 19 digits that says at most 1,048,576.
+    /// No head stands at the front of the bytes, whatever follows: it breaks its form.
     Head,
+    /// The first 16,384 bytes hold no whole head, and are no `Head`.
+    HeadTooLong,
+    /// The `Content-Length` is more than 1,048,576.
+    BodyTooLong,
+    /// A `Content-Length` isn't 1 to 19 digits, or two of them differ as numbers.
+    BadLength,
+    /// There is a `Transfer-Encoding`.
+    Coding,
     /// The source ended inside a request.
     Cut,
     /// The source failed, and its count of faults rose.

@@ -1,34 +1,64 @@
 //! What the field lines of a head say.
-ghost use Rattle.std.specs.Prelude.{◌≡◌, ◌<◌, [], length, reverse, codes, IfSome, None, Some, if◌then◌else◌};
+ghost use Rattle.std.specs.Prelude.{◌≡◌, ◌<◌, ◌≤◌, [], length, reverse, codes, IfSome};
 ghost use Rattle.std.specs.List.{list_any};
 ghost use Rattle.std.specs.Option.{option_map};
 ghost use Rattle.std.specs.Str.{str_to_ascii_lowercase};
 ghost use Rattle.std.specs.Str.Lossy.{utf8_lossy};
-ghost use Rattle.std.specs.Str.Parse.{digits_value};
 ghost use Rattle.httparse.specs.Grammar.{skip_ows, trim_ows};
-ghost use Rattle.mx_http.specs.Fields.{is_word, is_size, body_size, bearer_of, asks_close, has_element, values_of};
-ghost use Rattle.mx_http.specs.Spans.{pairs_at, AreWithin, FindsFirst, size_after};
+ghost use Rattle.mx_http.specs.Fields.{all_say, asks_close, bearer_of, body_size, has_element, is_word, length_in, length_said, number_in, values_of};
+ghost use Rattle.mx_http.specs.Spans.{pairs_at, AreWithin, FindsFirst};
 
+use crate::fault::HttpFault;
 use httparse::spans::HeaderSpan;
 
 /// A body has at most so many bytes.
 pub const BODY_LIMIT: usize = 1_048_576;
 
-/// The number of bytes of the body; none where the field lines say no size.
-pub fn body_size(bytes: &[u8], fields: &[HeaderSpan]) -> Option<usize>
+/// The number of bytes of the body, or why the field lines say none.
+pub fn body_size(bytes: &[u8], fields: &[HeaderSpan]) -> Result<usize, HttpFault>
     requires { AreWithin bytes.now fields.now }
     ensures { result ≡ body_size (pairs_at bytes.now fields.now) }
 {
     if find_value(b"transfer-encoding", bytes, fields).is_some() {
-        return None;
+        return Err(HttpFault::Coding);
     }
+    match said_length(bytes, fields) {
+        None => Err(HttpFault::BadLength),
+        Some(length) if length > BODY_LIMIT => Err(HttpFault::BodyTooLong),
+        Some(length) => Ok(length),
+    }
+}
+
+/// The length that each `Content-Length` says, 0 where there is none; none where one of them is no
+/// length, or two differ.
+fn said_length(bytes: &[u8], fields: &[HeaderSpan]) -> Option<usize>
+    requires { AreWithin bytes.now fields.now }
+    ensures { result ≡ length_said (values_of (codes "content-length") (pairs_at bytes.now fields.now)) }
+{
     let Some((value, after)) = find_value(b"content-length", bytes, fields) else {
         return Some(0);
     };
-    if find_value(b"content-length", bytes, after).is_some() {
-        return None;
+    let length = read_length(value)?;
+    if all_say(length, bytes, after) {
+        Some(length)
+    } else {
+        None
     }
-    size_of_body(value)
+}
+
+/// Whether each `Content-Length` says this length.
+fn all_say(length: usize, bytes: &[u8], fields: &[HeaderSpan]) -> bool
+    requires { AreWithin bytes.now fields.now }
+    ensures { result ≡ all_say length (values_of (codes "content-length") (pairs_at bytes.now fields.now)) }
+{
+    let mut rest = fields;
+    while let Some((value, after)) = find_value(b"content-length", bytes, rest) {
+        if read_length(value) != Some(length) {
+            return false;
+        }
+        rest = after;
+    }
+    true
 }
 
 /// The token behind `Bearer ` in the first `Authorization` field.
@@ -95,30 +125,28 @@ fn is_word(bytes: &[u8], word: &[u8]) -> bool
     bytes.eq_ignore_ascii_case(word)
 }
 
-/// The size that a `Content-Length` says.
-fn size_of_body(value: &[u8]) -> Option<usize>
-    ensures { result ≡ (if is_size value.now then Some (digits_value 10 value.now) else None) }
+/// The length that 1 to 19 digits say.
+fn read_length(value: &[u8]) -> Option<usize>
+    ensures { result ≡ length_in value.now }
 {
     if value.is_empty() || value.len() > 19 {
         return None;
     }
-    read_size(value)
+    read_number(value)
 }
 
-/// The number that digits say, where it is at most 1 MiB.
-fn read_size(digits: &[u8]) -> Option<usize>
-    ensures { result ≡ size_after 0 digits.now }
+/// The number that at most 19 digits say.
+fn read_number(digits: &[u8]) -> Option<usize>
+    requires { length digits.now ≤ 19 }
+    ensures { result ≡ number_in digits.now }
 {
-    let mut size = 0;
+    let mut number = 0;
     let mut rest = digits;
     while let [digit @ b'0'..=b'9', after @ ..] = rest {
-        size = 10 * size + usize::from(*digit - b'0');
-        if size > BODY_LIMIT {
-            return None;
-        }
+        number = 10 * number + usize::from(*digit - b'0');
         rest = after;
     }
-    if rest.is_empty() { Some(size) } else { None }
+    if rest.is_empty() { Some(number) } else { None }
 }
 
 /// Whether one of the elements between the commas is `close`.

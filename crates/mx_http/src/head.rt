@@ -13,9 +13,6 @@ use httparse::spans::{HeaderSpan, RequestSpans};
 use mx_ids::{Memory, Seq, Text};
 use std::alloc::Global;
 
-/// A head has at most so many field lines.
-const FIELD_LIMIT: usize = 64;
-
 /// What the head of a request says, its length and the size of the body behind it.
 #[derive(Drop)]
 pub struct Head {
@@ -66,7 +63,7 @@ pub fn read_head(
             if bytes.len() < HEAD_LIMIT {
                 Ok(None)
             } else {
-                Err(HttpFault::Head)
+                Err(HttpFault::HeadTooLong)
             }
         }
         Judged::Bad => Err(HttpFault::Head),
@@ -97,13 +94,8 @@ fn take_apart(
     requires whole { IsRequestOf bytes.now fields.now spans }
     ensures { TakesApart bytes.now result }
 {
-    if spans.headers > FIELD_LIMIT {
-        return Err(HttpFault::Head);
-    }
     let lines = &fields[..spans.headers];
-    let Some(size) = body_size(bytes, lines) else {
-        return Err(HttpFault::Head);
-    };
+    let size = body_size(bytes, lines)?;
     let method = copy_text(alloc, spans.method.of(bytes))?;
     let target = copy_text(alloc, spans.path.of(bytes))?;
     let bearer = copy_token(alloc, bearer(bytes, lines))?;

@@ -2,9 +2,10 @@
 //!
 //! The calls are `Reader::next_request` and `write_answer`. A reader takes bytes from a source until the next request
 //! is whole, and gives the request that the bytes begin with, whatever the pieces in which they come; or it answers
-//! why there is none: the source ended inside a request, the bytes are no request whatever follows, or the source
-//! failed. The law `calls_are_determined` says that the bytes determine the requests. `write_answer` puts just the
-//! bytes of the answer to the sink, or a front of them where the sink failed, and takes no memory.
+//! why there is none: the source ended inside a request, the bytes are no request whatever follows, by one of five
+//! faults, or the source failed. The law `calls_are_determined` says that the bytes determine the requests, and the
+//! fault. `write_answer` puts just the bytes of the answer to the sink, or a front of them where the sink failed, and
+//! takes no memory.
 //!
 //! Beside them stand what is read of a request's target and fields: `path_parts`, `query` and `access_token`.
 //!

@@ -1,10 +1,11 @@
 //! The reader of requests.
-ghost use Rattle.std.specs.Prelude.{◌≡◌, ◌↔◌, ◌⊎◌, true, false, ◌<◌, ◌≤◌, ◌++◌, ℕ, List, [], length, drop, slice_range, IfOk, OnOk, OnErr, IsErrOf, IsTrue};
+ghost use Rattle.std.specs.Prelude.{◌≡◌, ◌↔◌, ◌⊎◌, true, false, ◌<◌, ◌≤◌, ◌++◌, ℕ, List, [], length, drop, slice_range, IfErr, IfOk, OnOk, OnErr, IsErrOf, IsTrue};
 ghost use Rattle.std.specs.Io.KnownBytes.{prepend_known, Keeps, IsAtEnd};
 ghost use Rattle.mx_outside.specs.Causes.{Rose};
 ghost use Rattle.mx_http.specs.Reads.{CountsReadFault, Reads};
-ghost use Rattle.mx_http.specs.Calls.{IsBlank, IsOpenHead};
-ghost use Rattle.mx_http.specs.Parts.{AreLineEnds, EndsWith, FindsHead, GivesHead};
+ghost use Rattle.mx_http.specs.Calls.{AreLineEnds, IsBlank, IsOpenHead};
+ghost use Rattle.mx_http.specs.Parts.{EndsWith, FindsHead, GivesHead, Lacks};
+ghost use Rattle.mx_http.specs.Window.{IsFillFault};
 
 use crate::call::Call;
 use crate::fault::HttpFault;
@@ -54,10 +55,11 @@ impl Reader {
     /// source has ended and fewer than 16,384 bytes, all of them CR or LF, are left (HTTP/1.1, RFC
     /// 9112, sections 2 and 6).
     ///
-    /// A head has at most 16,384 bytes and 64 field lines, and a body at most 1,048,576 bytes.
-    /// `Head` comes where the bytes are no request, whatever follows; `Cut` where the source ended
-    /// inside a request; `ReadFault` exactly where the source failed, and then no request is held whole;
-    /// `Memory` where memory was refused. After an error the reader isn't used again.
+    /// A head has at most 16,384 bytes, and a body at most 1,048,576. `Head` to `Coding` come where the
+    /// bytes are no request, whatever follows, each exactly where its own definition holds (`HasFault`);
+    /// `Cut` where the source ended inside a request; `ReadFault` exactly where the source failed, and
+    /// then no request is held whole; `Memory` where memory was refused. After an error the reader isn't
+    /// used again.
     pub fn next_request<S: Source>(
         &mut self,
         alloc: Global,
@@ -105,9 +107,7 @@ impl Reader {
         ensures kept { Keeps (prepend_known self.old (S.left source.old)) (prepend_known self.new (S.left source.new)) }
         ensures grown { (more : List ℕ) × (self.new ≡ self.old ++ more) }
         ensures whole { OnOk result (whole ≤ length self.new) }
-        ensures cut { IsErrOf result HttpFault.Cut → (length self.new < whole) × IsAtEnd (S.left source.new) }
-        ensures failed { IsErrOf result HttpFault.ReadFault → length self.new < whole }
-        ensures none { IsErrOf result HttpFault.Head → ⊥ }
+        ensures lacks { IfErr result (λ fault. Lacks self.new whole (S.left source.new) fault) }
         ensures count { S.faults source.old ≤ S.faults source.new }
         ensures counted { CountsReadFault result (S.faults source.old) (S.faults source.new) }
         ensures cause { IsErrOf result HttpFault.ReadFault → Rose (S.faults source.old) (S.faults source.new) }
@@ -128,7 +128,7 @@ impl Reader {
         ensures longer { IfOk result (λ some. some ≡ true → length self.old < length self.new) }
         ensures ended { IfOk result (λ some. some ≡ false → (self.new ≡ self.old) × IsAtEnd (S.left source.new)) }
         ensures same { OnErr result (self.new ≡ self.old) }
-        ensures faults { (IsErrOf result HttpFault.Head → ⊥) × (IsErrOf result HttpFault.Cut → ⊥) }
+        ensures faults { IfErr result IsFillFault }
         ensures count { S.faults source.old ≤ S.faults source.new }
         ensures counted { CountsReadFault result (S.faults source.old) (S.faults source.new) }
         ensures cause { IsErrOf result HttpFault.ReadFault → Rose (S.faults source.old) (S.faults source.new) }

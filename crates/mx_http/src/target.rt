@@ -2,7 +2,7 @@
 ghost use Rattle.std.specs.Prelude.{◌≡◌, ◌↔◌, ◌==◌, ◌||◌, false, IsTrue};
 ghost use Rattle.std.specs.List.{list_all};
 ghost use Rattle.httparse.specs.Grammar.{EndsInTarget, is_token_byte, is_uri_byte};
-ghost use Rattle.mx_http.specs.Parts.{AreLineEnds};
+ghost use Rattle.mx_http.specs.Calls.{AreLineEnds};
 ghost use Rattle.mx_http.specs.Target.{behind_lines, behind_token, ends_in_target};
 
 /// Whether the bytes end inside the target of a request.

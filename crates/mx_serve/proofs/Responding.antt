@@ -184,7 +184,7 @@ module _ (site : Site) (stops : Stops) where
   written limit earlier c now old new m status text from to (step.Last n end.Closed) r w = absurd w
   written limit earlier c now old new m status text from to (step.Last n end.Full) r w = absurd w
   written limit earlier c now old new m status text from to (step.Last n end.Cut) r w = absurd w
-  written limit earlier c now old new m status text from to (step.Last n end.Refused) r w = absurd w
+  written limit earlier c now old new m status text from to (step.Last n (end.Refused _)) r w = absurd w
   written limit earlier c now old new m status text from to (step.Last n end.ReadFault) r w = absurd w
   written limit earlier c now old new m status text from to (step.Last n (end.Memory _)) r w = absurd w
   written limit earlier c now old new m status text from to (step.Ended e) r w = absurd w

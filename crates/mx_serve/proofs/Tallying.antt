@@ -201,7 +201,7 @@ tallied_step site lists c m bytes from to old new (step.Last n end.WriteFault) w
 tallied_step site lists c m bytes from to old new (step.Last n end.Closed) w t = absurd w
 tallied_step site lists c m bytes from to old new (step.Last n end.Full) w t = absurd w
 tallied_step site lists c m bytes from to old new (step.Last n end.Cut) w t = absurd w
-tallied_step site lists c m bytes from to old new (step.Last n end.Refused) w t = absurd w
+tallied_step site lists c m bytes from to old new (step.Last n (end.Refused _)) w t = absurd w
 tallied_step site lists c m bytes from to old new (step.Last n end.ReadFault) w t = absurd w
 tallied_step site lists c m bytes from to old new (step.Last n (end.Memory wanting)) w t = absurd w
 tallied_step site lists c m bytes from to old new (step.Ended e) w t = absurd w

@@ -123,22 +123,65 @@ fn what_is_cut_has_its_cause(rt: HostRuntime) {
 }
 
 #[test]
-fn what_is_no_request_has_its_cause(rt: HostRuntime) {
+fn what_is_no_head_has_its_cause(rt: HostRuntime) {
     let alloc = rt.alloc();
     expect_faults(
         &rt,
         alloc,
         r#"["\r\r\nGET",
             "GET / HTTP/2.0\r\n\r\n",
-            "GET / HTTP/1.1\r\nContent-Length: 1\r\nContent-Length: 1\r\n\r\na",
-            "GET / HTTP/1.1\r\nTransfer-encoding: chunked\r\n\r\n",
-            "GET / HTTP/1.1\r\nContent-Length: 00000000000000000001\r\n\r\na",
-            "GET / HTTP/1.1\r\nContent-Length: 1048577\r\n\r\na",
-            "GET / HTTP/1.1\r\nContent-Length: +1\r\n\r\na",
-            "GET / HTTP/1.1\r\nContent-Length:\r\n\r\n"]"#,
+            "GET / HTTP/1.1\r\nContent-Length: 1\r\n two\r\n\r\na"]"#,
         HttpFault::Head,
     );
     assert_eq!(rt; is_asked(&rt, alloc, b"GET /\xff "), Err(HttpFault::Head));
+}
+
+#[test]
+fn a_length_that_is_none_has_its_cause(rt: HostRuntime) {
+    expect_faults(
+        &rt,
+        rt.alloc(),
+        r#"["GET / HTTP/1.1\r\nContent-Length: 5\r\nContent-Length: 6\r\n\r\naaaaa",
+            "GET / HTTP/1.1\r\nContent-Length: 5\r\nContent-Length: 5\r\nContent-Length: x\r\n\r\naaaaa",
+            "GET / HTTP/1.1\r\nContent-Length: 1048577\r\nContent-Length: 1048578\r\n\r\na",
+            "GET / HTTP/1.1\r\nContent-Length: 00000000000000000001\r\n\r\na",
+            "GET / HTTP/1.1\r\nContent-Length: x\r\n\r\na",
+            "GET / HTTP/1.1\r\nContent-Length: 1, 1\r\n\r\na",
+            "GET / HTTP/1.1\r\nContent-Length: +1\r\n\r\na",
+            "GET / HTTP/1.1\r\nContent-Length:\r\n\r\n"]"#,
+        HttpFault::BadLength,
+    );
+}
+
+#[test]
+fn a_body_that_is_too_long_has_its_cause(rt: HostRuntime) {
+    expect_faults(
+        &rt,
+        rt.alloc(),
+        r#"["GET / HTTP/1.1\r\nContent-Length: 1048577\r\n\r\na",
+            "GET / HTTP/1.1\r\nContent-Length: 01048577\r\nContent-Length: 1048577\r\n\r\na",
+            "GET / HTTP/1.1\r\nContent-Length: 9999999999999999999\r\n\r\na"]"#,
+        HttpFault::BodyTooLong,
+    );
+}
+
+#[test]
+fn a_transfer_coding_has_its_cause(rt: HostRuntime) {
+    expect_faults(
+        &rt,
+        rt.alloc(),
+        r#"["GET / HTTP/1.1\r\nTransfer-encoding: chunked\r\n\r\n",
+            "GET / HTTP/1.1\r\nTransfer-Encoding: chunked\r\nContent-Length: x\r\n\r\n",
+            "GET / HTTP/1.1\r\nContent-Length: 1048577\r\nTransfer-Encoding:\r\n\r\n"]"#,
+        HttpFault::Coding,
+    );
+}
+
+#[test]
+fn a_length_may_be_said_again(rt: HostRuntime) {
+    let alloc = rt.alloc();
+    let again = b"POST / HTTP/1.1\r\nContent-Length: 5\r\ncontent-length: 05\r\n\r\nabcde";
+    assert!(rt; says(&first_call(&rt, alloc, again), ["POST", "/", "abcde"]));
 }
 
 /// Whether a request is read from a source that gives so many bytes at a time and whose call of that number fails, or why
@@ -162,13 +205,13 @@ fn a_failed_read_is_the_answer(rt: HostRuntime) {
     assert_eq!(rt; is_read(&rt, alloc, 40, 1), Ok(true));
 }
 
-/// A head with so many field lines.
+/// A head with so many field lines of the shortest form.
 fn with_lines(rt: &impl Abort, alloc: Global, count: usize) -> Vec<u8> {
-    let mut bytes = Vec::from_slice(alloc, b"GET / HTTP/1.1\r\n").expect(rt, "memory");
+    let mut bytes = Vec::from_slice(alloc, b"GET / HTTP/1.1\n").expect(rt, "memory");
     for _ in 0..count {
-        bytes.extend_from_slice(b"a:b\r\n").expect(rt, "memory");
+        bytes.extend_from_slice(b"a:\n").expect(rt, "memory");
     }
-    bytes.extend_from_slice(b"\r\n").expect(rt, "memory");
+    bytes.extend_from_slice(b"\n").expect(rt, "memory");
     bytes
 }
 
@@ -177,20 +220,48 @@ fn takes_lines(rt: &impl Abort, alloc: Global, count: usize) -> Result<bool, Htt
     is_asked(rt, alloc, with_lines(rt, alloc, count).as_slice())
 }
 
-/// Whether so many empty lines are a request, or why not.
-fn takes_blank(rt: &impl Abort, alloc: Global, count: usize) -> Result<bool, HttpFault> {
-    let mut bytes = Vec::new(alloc);
-    bytes.resize(count, b'\n').expect(rt, "memory");
+/// Whether these bytes, and then one of them again and again up to a number of bytes, are a request, or why not.
+fn takes_filled(
+    rt: &impl Abort,
+    alloc: Global,
+    front: &[u8],
+    byte: u8,
+    count: usize,
+) -> Result<bool, HttpFault> {
+    let mut bytes = Vec::from_slice(alloc, front).expect(rt, "memory");
+    bytes.resize(count, byte).expect(rt, "memory");
     is_asked(rt, alloc, bytes.as_slice())
 }
 
 #[test]
 fn heads_have_limits(rt: HostRuntime) {
     let alloc = rt.alloc();
-    assert_eq!(rt; takes_lines(&rt, alloc, 64), Ok(true));
-    assert_eq!(rt; takes_lines(&rt, alloc, 65), Err(HttpFault::Head));
-    assert_eq!(rt; takes_blank(&rt, alloc, 16_383), Ok(false));
-    assert_eq!(rt; takes_blank(&rt, alloc, 16_384), Err(HttpFault::Head));
+    assert_eq!(rt; takes_lines(&rt, alloc, 5456), Ok(true));
+    assert_eq!(rt; takes_lines(&rt, alloc, 5457), Err(HttpFault::HeadTooLong));
+    let long = [
+        (16_383usize, HttpFault::Cut),
+        (16_384, HttpFault::HeadTooLong),
+    ];
+    for (count, fault) in long {
+        assert_eq!(rt; takes_filled(&rt, alloc, b"GET /", b'a', count), Err(fault));
+        assert_eq!(rt;
+            takes_filled(&rt, alloc, b"GET /\xff", b'a', count),
+            Err(fault)
+        );
+    }
+    assert_eq!(rt; takes_filled(&rt, alloc, b"", b'\n', 16_383), Ok(false));
+    assert_eq!(rt;
+        takes_filled(&rt, alloc, b"", b'\n', 16_384),
+        Err(HttpFault::HeadTooLong)
+    );
+    assert_eq!(rt;
+        takes_filled(&rt, alloc, b"", b'\r', 16_384),
+        Err(HttpFault::HeadTooLong)
+    );
+    assert_eq!(rt;
+        takes_filled(&rt, alloc, b"\r\rGET", b'\n', 20_000),
+        Err(HttpFault::Head)
+    );
 }
 
 /// The first request of some bytes.

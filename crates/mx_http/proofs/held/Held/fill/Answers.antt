@@ -32,4 +32,4 @@ returns-in-Failed-clause-fills g c =
     let all : i.bytes.len ≡ length ys = omega (arith, c.take_behind.auto.bytes, ap length value, i.bytes.ok.0) in
     let front : take i.end ys ≡ take i.end i.bytes.items = c.take_behind.ensures.front ∙ ap (take i.end) value in
     let is : slice_range i.bytes.items i.start i.end ≡ c.args.self.now.held = ap (λ (w : Window). w.held) c.self.view_is ∙ c.make_room.ensures.same in
-    (fill_none i.bytes.items ys _ c.args.self.now.held i.bytes.len i.start i.end all c.self.invariant.0 front is, c.in-Failed.ensures.moves)
+    (tt, fill_none i.bytes.items ys _ c.args.self.now.held i.bytes.len i.start i.end all c.self.invariant.0 front is, c.in-Failed.ensures.moves)

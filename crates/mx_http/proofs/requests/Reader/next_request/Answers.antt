@@ -13,8 +13,7 @@ returns-in_err-fill_to-clause-reads g c =
     let held = c.fill_to.new.self in
     let found : HasParts c.fill_head.new.self parts = given_parts _ c.fill_head.new.self _ parts c.in-Some.is c.in_ok-head.ensures.gives in
     let now : HasParts held parts = parts_now c.fill_head.new.self held c.fill_to.ensures.grown.0 parts found c.fill_to.ensures.grown.1 in
-    rw (p.1, p.2) (body_failed _ _ _ held parts _ (Keeps-trans _ _ _ c.fill_head.ensures.kept c.fill_to.ensures.kept) now c.in_err-fill_to.ensures.none
-    c.in_err-fill_to.ensures.cut c.in_err-fill_to.ensures.failed)
+    rw (p.1, p.2) (body_failed _ _ _ held parts _ (Keeps-trans _ _ _ c.fill_head.ensures.kept c.fill_to.ensures.kept) now c.in_err-fill_to.ensures.lacks)
 
 pub returns-clause-reads : goal.returns-clause-reads
 returns-clause-reads g c =
