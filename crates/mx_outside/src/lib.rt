@@ -34,6 +34,8 @@ mod spawner;
 mod step_clock;
 mod streams;
 mod tcp_accept;
+mod tcp_ends;
+mod watching;
 
 pub use clock::Clock;
 pub use file_set::{FileFault, Files};
@@ -51,4 +53,5 @@ pub use source::{Source, Took};
 pub use spawner::{Job, Spawner, Started};
 pub use step_clock::StepClock;
 pub use streams::{Reading, StdErr, StdIn, StdOut, Writing};
-pub use tcp_accept::{TcpAccept, TcpIn, TcpOut};
+pub use tcp_accept::TcpAccept;
+pub use tcp_ends::{TcpIn, TcpOut};

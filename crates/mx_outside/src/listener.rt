@@ -41,6 +41,20 @@ pub trait Listener {
     /// The faults so far, a count that never falls. It may stop at 2^64 - 1.
     ghost faults: { Self → ℕ };
 
+    /// Sets for how many seconds the connections that come from now on may be silent: longer, and a
+    /// connection's source fails where nothing comes, and its sink where nothing is taken. Nothing is
+    /// claimed of the time that passes; a connection in memory is never silent.
+    fn limit_silence(&mut self, seconds: u64)
+        ensures kept { left self.new ≡ left self.old }
+        ensures count { faults self.new ≡ faults self.old };
+
+    /// Lets the connections end with the standard input: once it has ended none comes any more, and what
+    /// they send is at its end behind the request that is answered. Nothing is claimed of when; those in
+    /// memory know no standard input.
+    fn end_with_input(&mut self)
+        ensures kept { left self.new ≡ left self.old }
+        ensures count { faults self.new ≡ faults self.old };
+
     /// Binds the address, and leaves the pairs as they are. `Failed` comes only where the count of
     /// faults rose in this call, or stands at its last value.
     fn listen(&mut self, address: &str) -> Listened

@@ -48,6 +48,20 @@ impl<S: Source, K: Sink> Listener for MemListener<S, K> {
 
     ghost faults = { λ s. s.plan.faults };
 
+    /// It changes nothing.
+    fn limit_silence(&mut self, _seconds: u64)
+        ensures kept { Some self.new.left ≡ Some self.old.left }
+        ensures count { self.new.plan.faults ≡ self.old.plan.faults }
+        ensures same { self.new ≡ self.old }
+    {}
+
+    /// It changes nothing.
+    fn end_with_input(&mut self)
+        ensures kept { Some self.new.left ≡ Some self.old.left }
+        ensures count { self.new.plan.faults ≡ self.old.plan.faults }
+        ensures same { self.new ≡ self.old }
+    {}
+
     /// Any address can be bound.
     fn listen(&mut self, _address: &str) -> Listened
         ensures kept { Some self.new.left ≡ Some self.old.left }

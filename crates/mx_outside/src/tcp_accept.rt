@@ -2,23 +2,37 @@
 ghost use Rattle.std.specs.Prelude.{◌≡◌, None};
 
 use crate::listener::{Accepted, Listened, Listener};
-use crate::streams::{Reading, Writing};
-use std::io;
+use crate::tcp_ends::{TcpIn, TcpOut, ends};
+use crate::watching::{has_ended, watch};
+use std::alloc::Global;
+use std::io::{self, ErrorKind, Stdin};
 use std::marker::Model;
 use std::net::{Net, SocketAddr, TcpListener, TcpStream};
+use std::sync::atomic::AtomicBool;
+use std::sync::{Arc, Wait};
+use std::thread::Threads;
+use std::time::Duration;
+use std::{rt, thread};
 
-/// What a connection over TCP sends. Nothing is told of its bytes.
-pub type TcpIn = Reading<TcpStream>;
+/// A connection may be silent for so many seconds, where nothing else was said.
+const SILENCE: u64 = 60;
 
-/// What a connection over TCP is sent. Nothing is told of its bytes.
-pub type TcpOut = Writing<TcpStream>;
+/// How long a listener rests, in milliseconds, after the system didn't give it a connection.
+const MOMENT: u64 = 10;
 
-/// A listener for connections over TCP. Nothing is told of them. Each error of the system is a fault, also
-/// that of one connection which couldn't be accepted.
+/// A listener for connections over TCP. Nothing is told of them. Where the system can't give a
+/// connection, since its client gave up or no descriptor is free, the listener rests for a moment and
+/// goes on: only an address that isn't bound, and a listener that can't be used any more, is a fault.
 #[derive(Drop)]
 pub struct TcpAccept<R> {
-    net: R,
+    rt: R,
+    alloc: Global,
+    input: Stdin,
     listener: Option<TcpListener>,
+    silence: u64,
+    ends_with_input: bool,
+    /// Whether the standard input has ended, where the connections end with it.
+    ended: Option<Arc<AtomicBool>>,
     faults: u64,
 }
 
@@ -27,17 +41,26 @@ impl<R> Model for TcpAccept<R> {
 
     ghost Value = { R × ℕ };
 
-    ghost view = { λ s. (s.net, s.faults) };
+    ghost view = { λ s. (s.rt, s.faults) };
 }
 
-impl<R: Net<Listener = TcpListener, Stream = TcpStream>> TcpAccept<R> {
-    /// A listener on the network `net`, which isn't bound yet and has no fault so far.
-    pub fn new(net: R) -> TcpAccept<R>
-        ensures { result ≡ (net, 0) }
+impl<R> TcpAccept<R>
+where
+    R: Net<Listener = TcpListener, Stream = TcpStream> + rt::Clock + Wait + Threads + Copy + Drop,
+{
+    /// A listener on the network of `rt`, which isn't bound yet and has no fault so far. Its
+    /// connections may be silent for 60 seconds, and don't end with `input`.
+    pub fn new(rt: R, alloc: Global, input: Stdin) -> TcpAccept<R>
+        ensures { result ≡ (rt, 0) }
     {
         TcpAccept {
-            net,
+            rt,
+            alloc,
+            input,
             listener: None,
+            silence: SILENCE,
+            ends_with_input: false,
+            ended: None,
             faults: 0,
         }
     }
@@ -48,22 +71,65 @@ impl<R: Net<Listener = TcpListener, Stream = TcpStream>> TcpAccept<R> {
         self.listener.as_ref()?.local_addr().ok()
     }
 
-    /// The ends of the next connection, if the listener is bound and the system gives one.
-    fn next_ends(&self) -> Option<(TcpIn, TcpOut)> {
-        let (stream, _) = self.listener.as_ref()?.accept().ok()?;
-        ends(stream).ok()
+    /// Binds an address, and watches the standard input where the connections end with it: then who waits
+    /// for one looks every moment whether it has ended.
+    fn bind(&mut self, address: &str) -> io::Result<()>
+        ensures { self.new ≡ self.old }
+    {
+        let listener = TcpListener::bind(&self.rt, address)?;
+        if self.ends_with_input {
+            listener.set_nonblocking(true)?;
+            self.ended = Some(watch(&self.rt, self.alloc, self.input)?);
+        }
+        self.listener = Some(listener);
+        Ok(())
+    }
+
+    /// The next connection. None comes any more once the standard input has ended, where the connections
+    /// end with it.
+    fn next_pair(&self) -> Accepted<TcpIn<R>, TcpOut> {
+        let Some(listener) = &self.listener else {
+            return Accepted::Failed;
+        };
+        'waits: for _ in self.rt.forever() {
+            let came = listener.accept();
+            if has_ended(&self.ended) {
+                return Accepted::Closed;
+            }
+            match came {
+                Ok((stream, _)) => {
+                    if let Ok((input, output)) = self.ends_of(stream) {
+                        return Accepted::Pair(input, output);
+                    }
+                }
+                Err(error) if is_final(error.kind()) => return Accepted::Failed,
+                Err(_) => {}
+            }
+            thread::sleep(&self.rt, Duration::from_millis(MOMENT));
+        }
+        unreachable!()
+    }
+
+    /// The ends of a connection.
+    fn ends_of(&self, stream: TcpStream) -> io::Result<(TcpIn<R>, TcpOut)> {
+        let ended = match &self.ended {
+            Some(ended) => Some(Arc::try_clone(ended)?),
+            None => None,
+        };
+        ends(self.rt, self.alloc, stream, self.silence, ended)
     }
 }
 
-/// Both ends of a connection. What is put is sent at once where the system can be told so.
-fn ends(stream: TcpStream) -> io::Result<(TcpIn, TcpOut)> {
-    let _ = stream.set_nodelay(true);
-    let input = stream.try_clone()?;
-    Ok((Reading::new(input), Writing::new(stream)))
+/// Whether an error of this kind comes from what isn't a bound socket that listens, or not any more.
+fn is_final(kind: ErrorKind) -> bool {
+    matches!(kind, ErrorKind::InvalidInput | ErrorKind::Unsupported)
 }
 
-impl<R: Net<Listener = TcpListener, Stream = TcpStream>> Listener for TcpAccept<R> {
-    type In = TcpIn;
+impl<R> Listener for TcpAccept<R>
+where
+    R: Net<Listener = TcpListener, Stream = TcpStream> + rt::Clock + Wait + Threads + Copy + Drop,
+{
+    type In = TcpIn<R>;
 
     type Out = TcpOut;
 
@@ -71,13 +137,20 @@ impl<R: Net<Listener = TcpListener, Stream = TcpStream>> Listener for TcpAccept<
 
     ghost faults = { λ s. s.1 };
 
+    /// Of 0 seconds no connection is accepted.
+    fn limit_silence(&mut self, seconds: u64) {
+        self.silence = seconds;
+    }
+
+    /// It takes effect at the next `listen`.
+    fn end_with_input(&mut self) {
+        self.ends_with_input = true;
+    }
+
     /// A further call binds another address in place of the one before, which stays where that fails.
     fn listen(&mut self, address: &str) -> Listened {
-        match TcpListener::bind(&self.net, address) {
-            Ok(listener) => {
-                self.listener = Some(listener);
-                Listened::Done
-            }
+        match self.bind(address) {
+            Ok(()) => Listened::Done,
             Err(_) => {
                 self.faults = self.faults.saturating_add(1);
                 Listened::Failed
@@ -85,14 +158,13 @@ impl<R: Net<Listener = TcpListener, Stream = TcpStream>> Listener for TcpAccept<
         }
     }
 
-    /// Before the first `Done` of `listen` it fails.
-    fn accept(&mut self) -> Accepted<TcpIn, TcpOut> {
-        match self.next_ends() {
-            Some((input, output)) => Accepted::Pair(input, output),
-            None => {
-                self.faults = self.faults.saturating_add(1);
-                Accepted::Failed
-            }
+    /// Before the first `Done` of `listen` it fails. Waits for a connection, however often the system
+    /// can't give one.
+    fn accept(&mut self) -> Accepted<TcpIn<R>, TcpOut> {
+        let accepted = self.next_pair();
+        if matches!(accepted, Accepted::Failed) {
+            self.faults = self.faults.saturating_add(1);
         }
+        accepted
     }
 }

@@ -33,7 +33,7 @@ fn main(rt: HostRuntime) -> ExitCode {
     let mut input = StdIn::new(rt.stdin());
     let mut output = StdOut::new(rt.stdout());
     let mut clock = HostClock::new(rt);
-    let mut listener = TcpAccept::new(rt);
+    let mut listener = TcpAccept::new(rt, rt.alloc(), rt.stdin());
     let ran = run(
         &rt,
         rt.alloc(),
