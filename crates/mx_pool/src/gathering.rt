@@ -19,7 +19,7 @@ pub fn make_seats<N: Seating, G: Gate + Drop>(
     server: &Server<G>,
     pass: &mut EnginePass,
     share: &mut Share<N>,
-    count: u8,
+    count: u64,
 ) -> Result<Vec<Seated<N>>, Memory>
     requires server { IsServerAt N.service N.places server.now }
     requires ties { Ties server.now.engine pass.old }

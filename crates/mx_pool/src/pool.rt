@@ -76,11 +76,11 @@ impl<N: Seating, G: Gate + Drop> Pool<N, G> {
     }
 
     /// All seats. Waits until so many are free.
-    pub fn take_all<R: Wait>(&self, rt: &R, alloc: Global, count: u8) -> Vec<Seated<N>>
+    pub fn take_all<R: Wait>(&self, rt: &R, alloc: Global, count: u64) -> Vec<Seated<N>>
         ensures { count ≤ vec_len result }
     {
         let mut free = self.freed.wait_while(rt, self.free.lock(rt), |free| {
-            free.seats.len() < count as usize
+            (free.seats.len() as u64) < count
         });
         mem::replace(&mut free.seats, Vec::new(alloc))
     }

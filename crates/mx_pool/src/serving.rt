@@ -57,7 +57,7 @@ pub fn serve<
     alloc: Global,
     server: Server<G>,
     pass: EnginePass,
-    seats: u8,
+    seats: u64,
     listener: &mut L,
     spawner: &mut Spawner,
     clock: &C,
@@ -75,7 +75,7 @@ where
     ensures served { ∥ HasServed (service_of server) L.left (ends_by L.In.left L.Out.written L.In.faults L.Out.faults)
         (change (L.left listener.old) (L.left listener.new)) (change spawner.old.plan.next spawner.new.plan.next) result.0 (stores_of result.1) ∥₁ }
 {
-    let blank = Blank::new(seats as u64);
+    let blank = Blank::new(seats);
     serve_by::<Brand, G, L, C, R>(
         rt, alloc, blank, server, pass, seats, listener, spawner, clock,
     )
@@ -94,7 +94,7 @@ fn serve_by<
     blank: Blank,
     server: Server<G>,
     pass: EnginePass,
-    seats: u8,
+    seats: u64,
     listener: &mut L,
     spawner: &mut Spawner,
     clock: &C,
@@ -143,7 +143,7 @@ fn serve_pool<
     rt: &R,
     alloc: Global,
     pool: &Arc<Pool<N, G>>,
-    seats: u8,
+    seats: u64,
     book: Book<N>,
     share: Share<N>,
     pass: &mut EnginePass,

@@ -33,7 +33,7 @@ pub struct Ran {
 
 /// Reads the users file that the words name, and serves on an engine that has no store, with so many writers a stream and so many
 /// requests a connection as the words say: in mode `pipe` one connection over `input` and `output`; in mode `serve` the connections that
-/// come to the address of the words, so many at once as the words say, each by a job of `spawner`. Where the words ask for the help or
+/// come to the address of the words, so many at once as the words say and silent for no longer than they say, each by a job of `spawner`. Where the words ask for the help or
 /// the version that is put to `output`, with status `Done`, and nothing is served. Waits for turns at the streams, rests in syncs with a
 /// `timeout`, and in mode `serve` waits for connections, for free passes, and for the jobs in the end.
 ///
@@ -271,6 +271,7 @@ where
         (arrivals (change (L.left listener.old) (L.left listener.new)) (change spawner.old.plan.next spawner.new.plan.next)) result }
     ensures told { TellsServer (said_by words.now).users address.now (E.written errors.old) (E.written errors.new) (E.faults errors.old) (E.faults errors.new) result }
 {
+    set_up(words, listener);
     match listener.listen(address) {
         Listened::Failed => tell_about(alloc, errors, Status::Listener, address),
         Listened::Done => {
@@ -279,6 +280,17 @@ where
             tell(errors, status, None);
             status
         }
+    }
+}
+
+/// Tells a listener what the words say of its connections.
+fn set_up<L: Listener>(words: &Words, listener: &mut L)
+    ensures kept { L.left listener.new ≡ L.left listener.old }
+    ensures count { L.faults listener.new ≡ L.faults listener.old }
+{
+    listener.limit_silence(words.idle);
+    if words.until_eof {
+        listener.end_with_input();
     }
 }
 

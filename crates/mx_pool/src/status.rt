@@ -48,7 +48,7 @@ pub(crate) fn status_of(end: End) -> Status
 {
     match end {
         End::Closed | End::Asked => Status::Done,
-        End::Full | End::Cut | End::Refused => Status::RequestStream,
+        End::Full | End::Cut | End::Refused(_) => Status::RequestStream,
         End::ReadFault | End::WriteFault => Status::Outside,
         End::Memory(refused) => Status::Memory(refused),
     }

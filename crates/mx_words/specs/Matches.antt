@@ -26,8 +26,9 @@ HasNumberUpTo most f id = (t : Text) × (one_text f id ≡ Some t) × IsNumeral 
 -- each option of a number has one in its bounds
 pub record HasNumbers (f : Found) : Type 0 where
   pub workers : HasNumberUpTo 16 f (codes "workers")
-  pub connections : HasNumberUpTo 64 f (codes "connections")
+  pub connections : HasNumberUpTo 1000 f (codes "connections")
   pub requests : HasNumberUpTo 4294967296 f (codes "requests")
+  pub idle : HasNumberUpTo 86400 f (codes "idle")
 
 -- `clap` takes the words, and these are its matches
 pub record IsParse (words : List Text) (f : Found) : Type 0 where
@@ -42,6 +43,8 @@ said_by_values v = record {
   workers = v.workers;
   connections = v.connections;
   requests = v.requests;
+  idle = v.idle;
+  until_eof = v.until_eof;
 }
 
 -- why the values make no run, as a text

@@ -1,7 +1,7 @@
 -- The command that `clap` reads the words by.
 use Rattle.std.specs.Prelude.{ℤ, Bool, pos, true, false, Some, [], ◌∷◌, List, codes}
 use Rattle.clap.specs.Words.{App, Rule, Text, new_app, new_rule}
-use Rattle.clap.specs.declared.builder.action.ArgAction.TheVariants.{Set}
+use Rattle.clap.specs.declared.builder.action.ArgAction.TheVariants.{Set, SetTrue}
 use Rattle.clap.specs.declared.builder.value_parser.ValueParser.TheVariants as parsers
 
 -- no name of the program stands before its words, and it has a version
@@ -23,14 +23,20 @@ number_rule name most otherwise = record (new_rule name) {
   value_names = 1;
 }
 
+-- a flag `--NAME`
+abbrev pub flag_rule : Text → Rule
+flag_rule name = record (new_rule name) { long = Some name; action = Some SetTrue }
+
 -- the options of the program
 abbrev pub rules : List Rule
 rules = text_rule (codes "users") true
     ∷ text_rule (codes "mode") true
     ∷ text_rule (codes "listen") false
     ∷ number_rule (codes "workers") (pos 16) (codes "1")
-    ∷ number_rule (codes "connections") (pos 64) (codes "8")
-    ∷ number_rule (codes "requests") (pos 4294967296) (codes "1000") ∷ []
+    ∷ number_rule (codes "connections") (pos 1000) (codes "64")
+    ∷ number_rule (codes "requests") (pos 4294967296) (codes "1000")
+    ∷ number_rule (codes "idle") (pos 86400) (codes "60")
+    ∷ flag_rule (codes "until-eof") ∷ []
 
 abbrev pub program : App
 program = record bare { top = record bare.top { rules = rules } }

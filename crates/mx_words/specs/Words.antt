@@ -1,5 +1,5 @@
 -- What the words of the command line ask.
-use Rattle.std.specs.Prelude.{◌≡◌, ◌≤◌, ◌⊎◌, ℕ, List, [], ◌∷◌, ◌++◌, Option, Some, None, Result, Ok, Err, codes, if◌then◌else◌, string_bytes, ⊤}
+use Rattle.std.specs.Prelude.{◌≡◌, ◌≤◌, ◌⊎◌, ℕ, Bool, false, List, [], ◌∷◌, ◌++◌, Option, Some, None, Result, Ok, Err, codes, if◌then◌else◌, string_bytes, ⊤}
 use Rattle.std.specs.Str.{bytes_eq}
 use Rattle.std.specs.Str.Parse.{digits_value, without_leading_plus}
 use Rattle.clap.specs.Words.{Row, Text, fault_of, first_of, matches_of, one_of}
@@ -15,13 +15,16 @@ use Rattle.mx_words.specs.declared.words.Words.{Words}
 use Rattle.mx_words.specs.declared.words.WordsFault.{WordsFault}
 use Rattle.mx_words.specs.declared.words.WordsFault.TheVariants as faults
 
--- the name of the users file, where the program listens, the writers a stream, the connections at once and the requests of each
+-- the name of the users file, where the program listens, the writers a stream, the connections at once, the requests of each, the seconds that
+-- one may be silent, and whether the program ends with its standard input
 pub record Said : Type 0 where
   pub users : Text
   pub listen : Option Text
   pub workers : ℕ
   pub connections : ℕ
   pub requests : ℕ
+  pub idle : ℕ
+  pub until_eof : Bool
 
 -- what words ask: a run, help, or the version; or `clap` refuses them, or they make no run, and why
 pub data Meaning : Type 0 where
@@ -57,20 +60,27 @@ abbrev pub number_in : Option Text → ℕ
 number_in (Some text) = number_of text
 number_in None = 0
 
--- the numbers of a run
-abbrev pub said_at : Text → ℕ → ℕ → ℕ → Result (Option Text) Text → Result Said Text
-said_at users workers connections requests (Ok listen) = Ok (record { users = users; listen = listen; workers = workers; connections = connections; requests = requests })
-said_at users workers connections requests (Err why) = Err why
+-- whether a flag of this value is given
+abbrev pub is_set : Option Text → Bool
+is_set (Some text) = bytes_eq text (codes "true")
+is_set None = false
 
-abbrev pub said_with : Option Text → Option Text → Option Text → ℕ → ℕ → ℕ → Result Said Text
-said_with (Some users) (Some word) listen workers connections requests = said_at users workers connections requests (way_of word listen)
-said_with (Some users) None listen workers connections requests = Err (codes "--mode is missing")
-said_with None word listen workers connections requests = Err (codes "--users is missing")
+-- the numbers of a run
+abbrev pub said_at : Text → ℕ → ℕ → ℕ → ℕ → Bool → Result (Option Text) Text → Result Said Text
+said_at users workers connections requests idle until_eof (Ok listen) =
+    Ok (record { users = users; listen = listen; workers = workers; connections = connections; requests = requests; idle = idle; until_eof = until_eof })
+said_at users workers connections requests idle until_eof (Err why) = Err why
+
+abbrev pub said_with : Option Text → Option Text → Option Text → ℕ → ℕ → ℕ → ℕ → Bool → Result Said Text
+said_with (Some users) (Some word) listen workers connections requests idle until_eof = said_at users workers connections requests idle until_eof (way_of word listen)
+said_with (Some users) None listen workers connections requests idle until_eof = Err (codes "--mode is missing")
+said_with None word listen workers connections requests idle until_eof = Err (codes "--users is missing")
 
 -- what the matches of `clap` say
 abbrev pub said_of : List Row → Result Said Text
 said_of rows = said_with (first_of (codes "users") rows) (first_of (codes "mode") rows) (first_of (codes "listen") rows)
-    (number_in (one_of (codes "workers") rows)) (number_in (one_of (codes "connections") rows)) (number_in (one_of (codes "requests") rows))
+    (number_in (one_of (codes "workers") rows)) (number_in (one_of (codes "connections") rows)) (number_in (one_of (codes "requests") rows)) (number_in (one_of (codes "idle") rows))
+    (is_set (first_of (codes "until-eof") rows))
 
 -- ---- all words
 
@@ -101,7 +111,7 @@ address_of (mode.Serve address) = Some (string_bytes address)
 
 -- what the words that were read say
 abbrev pub said_by : Words → Said
-said_by w = record { users = string_bytes w.users; listen = address_of w.mode; workers = w.workers; connections = w.connections; requests = w.requests }
+said_by w = record { users = string_bytes w.users; listen = address_of w.mode; workers = w.workers; connections = w.connections; requests = w.requests; idle = w.idle; until_eof = w.until_eof }
 
 -- what was read is what the words ask; nothing is told where memory is wanting
 abbrev pub IsRead : Result Asked WordsFault → Meaning → Type 0
@@ -114,8 +124,9 @@ IsRead (Err (faults.Memory _)) m = ⊤
 -- the numbers of a run lie in the bounds of their options
 pub record AreWithin (w : Words) : Type 0 where
   pub workers : (1 ≤ w.workers) × (w.workers ≤ 16)
-  pub connections : (1 ≤ w.connections) × (w.connections ≤ 64)
+  pub connections : (1 ≤ w.connections) × (w.connections ≤ 1000)
   pub requests : (1 ≤ w.requests) × (w.requests ≤ 4294967296)
+  pub idle : (1 ≤ w.idle) × (w.idle ≤ 86400)
 
 abbrev pub IfRun : Asked → (Words → Type 0) → Type 0
 IfRun (asked.Run w) P = P w
@@ -130,4 +141,4 @@ pipe_words file = codes "--users" ∷ file ∷ codes "--mode" ∷ codes "pipe" �
 
 -- what they say
 abbrev pub pipe_said : Text → Said
-pipe_said file = record { users = file; listen = None; workers = 1; connections = 8; requests = 1000 }
+pipe_said file = record { users = file; listen = None; workers = 1; connections = 64; requests = 1000; idle = 60; until_eof = false }

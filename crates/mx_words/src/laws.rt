@@ -3,8 +3,8 @@ ghost use Rattle.std.specs.Prelude.{◌≡◌, ◌∷◌, List, ℕ, codes, fals
 ghost use Rattle.std.specs.Str.Parse.{starts_with_minus};
 ghost use Rattle.mx_words.specs.Words.{Help, Says, Version, asked_of, pipe_said, pipe_words};
 
-/// The words `--users FILE --mode pipe` are read, where the name of the file doesn't begin with `-`: one writer a stream, 8 connections,
-/// 1,000 requests for each.
+/// The words `--users FILE --mode pipe` are read, where the name of the file doesn't begin with `-`: one writer a stream, 64 connections,
+/// 1,000 requests for each, 60 seconds of silence, and no end with the standard input.
 #[tactic(auto, using(crate::proofs::PipeWords::pipe_words_read))]
 pub fn pipe_words_are_read()
     ensures { (file : List ℕ) → starts_with_minus file ≡ false → asked_of (pipe_words file) ≡ Says (pipe_said file) }

@@ -3,7 +3,7 @@
 //! The call is `read_words`: what the words ask, as [`Asked`] (a run with its [`Words`], the help or the version), or the
 //! fault `Usage` exactly where they aren't of their form, which is `clap`'s definition of a command with these options
 //! and the program's own conditions on them: two modes, `--listen` with mode `serve` alone, and the bounds of
-//! `--workers`, `--connections` and `--requests`.
+//! `--workers`, `--connections`, `--requests` and `--idle`.
 //!
 //! The laws are checks on the definition itself: the words `--users FILE --mode pipe` are read, and say what a reader
 //! expects; `--help` and `--version` ask for the help and the version.

@@ -3,7 +3,7 @@ ghost use Rattle.std.specs.Prelude.{◌≡◌, codes, option_map};
 ghost use Rattle.std.specs.Result.{result_map_both};
 ghost use Rattle.clap.specs.Words.{first_of, found_of, one_of, rows_of};
 ghost use Rattle.mx_words.specs.Matches.{HasNumber, HasNumbers, said_by_values, why_of};
-ghost use Rattle.mx_words.specs.Words.{number_in, said_of, way_of, with_address, without_address};
+ghost use Rattle.mx_words.specs.Words.{is_set, number_in, said_of, way_of, with_address, without_address};
 
 use clap::ArgMatches;
 
@@ -14,8 +14,10 @@ pub(crate) struct Values<'a> {
     /// The address of mode `serve`; mode `pipe` has none.
     pub listen: Option<&'a str>,
     pub workers: u8,
-    pub connections: u8,
+    pub connections: u64,
     pub requests: u64,
+    pub idle: u64,
+    pub until_eof: bool,
 }
 
 /// Why words that `clap` takes make no run: a text that the program has, and the word that it is of, if it is of one.
@@ -41,8 +43,10 @@ pub(crate) fn read_matches<'a>(matches: &ArgMatches<'a>) -> Result<Values<'a>, W
         users,
         listen,
         workers: small_number(matches, "workers"),
-        connections: small_number(matches, "connections"),
+        connections: number(matches, "connections"),
         requests: number(matches, "requests"),
+        idle: number(matches, "idle"),
+        until_eof: is_set(text(matches, "until-eof")),
     })
 }
 
@@ -110,6 +114,16 @@ fn only<'a>(says: &'a str) -> Wrong<'a>
     ensures { why_of result ≡ says.entry.now }
 {
     Wrong { says, word: "" }
+}
+
+/// Whether a flag with this value was given.
+fn is_set<'a>(value: Option<&'a str>) -> bool
+    ensures { result ≡ is_set (option_map (λ s. s.now) value.entry) }
+{
+    match value {
+        Some(value) => value == "true",
+        None => false,
+    }
 }
 
 /// The value of an option, if it has one.

@@ -2,7 +2,7 @@
 ghost use Rattle.std.specs.Prelude.{◌≡◌, IfOk, false, pos};
 ghost use Rattle.clap.specs.Words.{app_of, rule_of};
 ghost use Rattle.clap.specs.declared.builder.value_parser.ValueParser.TheVariants as parsers;
-ghost use Rattle.mx_words.specs.Program.{bare, number_rule, program, text_rule};
+ghost use Rattle.mx_words.specs.Program.{bare, flag_rule, number_rule, program, text_rule};
 
 use clap::builder::ValueParser;
 use clap::{Arg, ArgAction, Command, value_parser};
@@ -35,9 +35,9 @@ pub(crate) fn program<'a>(alloc: Global) -> Result<Command<'a>, AllocError>
         .arg(number_arg(
             alloc,
             "connections",
-            64,
-            "8",
-            "Connections at once in mode serve, 1 to 64",
+            1000,
+            "64",
+            "Connections at once in mode serve, 1 to 1000",
         ))?
         .arg(number_arg(
             alloc,
@@ -45,6 +45,18 @@ pub(crate) fn program<'a>(alloc: Global) -> Result<Command<'a>, AllocError>
             4_294_967_296,
             "1000",
             "Requests that a connection is served, 1 to 4294967296",
+        ))?
+        .arg(number_arg(
+            alloc,
+            "idle",
+            86_400,
+            "60",
+            "Seconds that a connection may be silent in mode serve, 1 to 86400",
+        ))?
+        .arg(flag_arg(
+            alloc,
+            "until-eof",
+            "In mode serve, end once the standard input has ended",
         ))
 }
 
@@ -74,6 +86,17 @@ fn text_arg<'a>(
         .action(ArgAction::Set)
         .required(required)
         .value_name(value)
+        .help(help)
+}
+
+/// A flag `--NAME`.
+fn flag_arg<'a>(alloc: Global, name: &'a str, help: &'a str) -> Arg<'a>
+    ensures rule { rule_of result ≡ flag_rule name.entry.now }
+    ensures local { result.global ≡ false }
+{
+    Arg::new(alloc, name)
+        .long(name)
+        .action(ArgAction::SetTrue)
         .help(help)
 }
 

@@ -12,9 +12,9 @@ use clap::error::{Error, ErrorKind};
 use std::alloc::{AllocError, Global};
 
 /// Reads the words of the command line, those after the program's name: `--users FILE`, `--mode pipe` or `--mode serve` (both needed),
-/// `--listen ADDRESS`, `--workers N` (1 to 16, 1 where it isn't given), `--connections N` (1 to 64, 8 where it isn't given) and
-/// `--requests N` (1 to 4,294,967,296, 1,000 where it isn't given), in any order. Mode `serve` needs `--listen`, and mode `pipe` refuses
-/// it. No option is given twice. A value may stand after `=` in its option's word, and one that begins with `-` and has more stands only
+/// `--listen ADDRESS`, `--workers N` (1 to 16, 1 where it isn't given), `--connections N` (1 to 1,000, 64 where it isn't given),
+/// `--requests N` (1 to 4,294,967,296, 1,000 where it isn't given)  `--idle N` (1 to 86,400, 60 where it isn't given) and `--until-eof`, in any order. Mode
+/// `serve` needs `--listen`, and mode `pipe` refuses it. No option is given twice. A value may stand after `=` in its option's word, and one that begins with `-` and has more stands only
 /// there. A number is decimal digits, before which a plus or zeros may stand. `--help` or `-h` asks for the help, and `--version` or `-V`
 /// for the version, where no word before it is refused.
 ///
@@ -58,6 +58,8 @@ fn owned(alloc: Global, values: Values) -> Result<Words, AllocError>
         workers: values.workers,
         connections: values.connections,
         requests: values.requests,
+        idle: values.idle,
+        until_eof: values.until_eof,
     })
 }
 

@@ -19,10 +19,14 @@ pub struct Words {
     pub mode: Mode,
     /// Writers a stream, 1 to 16.
     pub workers: u8,
-    /// Connections at once, 1 to 64.
-    pub connections: u8,
+    /// Connections at once, 1 to 1,000.
+    pub connections: u64,
     /// Requests that a connection is served, 1 to 4,294,967,296.
     pub requests: u64,
+    /// Seconds that a connection may be silent, 1 to 86,400.
+    pub idle: u64,
+    /// Whether the program ends once its standard input has ended.
+    pub until_eof: bool,
 }
 
 /// What the words of the command line ask.

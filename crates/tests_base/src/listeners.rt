@@ -80,7 +80,7 @@ fn a_memory_listener_gives_its_pairs_and_fails_where_listed(rt: HostRuntime) {
 
 #[test]
 fn a_tcp_listener_accepts_once_it_is_bound(rt: HostRuntime) {
-    let mut listener = TcpAccept::new(rt);
+    let mut listener = TcpAccept::new(rt, rt.alloc(), rt.stdin());
     assert_eq!(rt; answer(&mut listener), Came::Failed);
     assert_eq!(rt; bind(&mut listener, "nowhere"), Listened::Failed);
     assert!(rt; listener.local_addr().is_none());

@@ -3,23 +3,26 @@ use mx_words::{Asked, Mode, Words, WordsFault, read_words};
 use std::alloc::{AllocError, AllocFailed, Global};
 use std::test::Fail;
 
-/// Words and, after a bar, what they ask: the users file, the address (`-` in mode `pipe`), the writers, the connections and the requests
-/// of a run; `help` or `version`; or, after a `!`, why they are refused.
+/// Words and, after a bar, what they ask: the users file, the address (`-` in mode `pipe`), the writers, the connections, the requests, the
+/// seconds of silence of a run and whether it ends with its input; `help` or `version`; or, after a `!`, why they are refused.
 const TABLE: &str = "\
---users u.txt --mode pipe|u.txt - 1 8 1000
---mode pipe --users u.txt|u.txt - 1 8 1000
---users=u.txt --mode=pipe|u.txt - 1 8 1000
---users u.txt --mode pipe --workers 16 --connections 64|u.txt - 16 64 1000
---workers=1 --connections=1 --users u.txt --mode pipe|u.txt - 1 1 1000
---users u.txt --mode pipe --workers +3 --connections 010|u.txt - 3 10 1000
---users u.txt --mode serve --listen 127.0.0.1:8008|u.txt 127.0.0.1:8008 1 8 1000
---listen [::1]:80 --connections 2 --mode serve --workers 4 --users a/b.txt|a/b.txt [::1]:80 4 2 1000
---users u.txt --mode pipe --requests 1|u.txt - 1 8 1
---requests=4294967296 --users u.txt --mode pipe|u.txt - 1 8 4294967296
---users pipe --mode pipe|pipe - 1 8 1000
---users - --mode pipe|- - 1 8 1000
---users=-u --mode pipe|-u - 1 8 1000
---users= --mode pipe| - 1 8 1000
+--users u.txt --mode pipe|u.txt - 1 64 1000 60 no
+--mode pipe --users u.txt|u.txt - 1 64 1000 60 no
+--users=u.txt --mode=pipe|u.txt - 1 64 1000 60 no
+--users u.txt --mode pipe --workers 16 --connections 64|u.txt - 16 64 1000 60 no
+--workers=1 --connections=1 --users u.txt --mode pipe|u.txt - 1 1 1000 60 no
+--users u.txt --mode pipe --workers +3 --connections 010|u.txt - 3 10 1000 60 no
+--users u.txt --mode serve --listen 127.0.0.1:8008|u.txt 127.0.0.1:8008 1 64 1000 60 no
+--listen [::1]:80 --connections 2 --mode serve --workers 4 --users a/b.txt|a/b.txt [::1]:80 4 2 1000 60 no
+--users u.txt --mode pipe --requests 1|u.txt - 1 64 1 60 no
+--requests=4294967296 --users u.txt --mode pipe|u.txt - 1 64 4294967296 60 no
+--users u.txt --mode pipe --connections 1000 --idle 1|u.txt - 1 1000 1000 1 no
+--idle=86400 --users u.txt --mode pipe|u.txt - 1 64 1000 86400 no
+--until-eof --users u.txt --mode serve --listen a:1|u.txt a:1 1 64 1000 60 yes
+--users pipe --mode pipe|pipe - 1 64 1000 60 no
+--users - --mode pipe|- - 1 64 1000 60 no
+--users=-u --mode pipe|-u - 1 64 1000 60 no
+--users= --mode pipe| - 1 64 1000 60 no
 --help|help
 -h|help
 --users u.txt --mode pipe --help|help
@@ -40,10 +43,14 @@ const TABLE: &str = "\
 --users u.txt --mode pipe --workers -1|!unexpected argument '-1' found
 --users u.txt --mode pipe --workers 1x|!invalid value '1x' for '--workers <N>': invalid digit found in string
 --users u.txt --mode pipe --workers 257|!invalid value '257' for '--workers <N>': 257 is not in 1..=16
---users u.txt --mode pipe --connections 65|!invalid value '65' for '--connections <N>': 65 is not in 1..=64
---users u.txt --mode pipe --connections 0|!invalid value '0' for '--connections <N>': 0 is not in 1..=64
+--users u.txt --mode pipe --connections 1001|!invalid value '1001' for '--connections <N>': 1001 is not in 1..=1000
+--users u.txt --mode pipe --connections 0|!invalid value '0' for '--connections <N>': 0 is not in 1..=1000
 --users u.txt --mode pipe --requests 0|!invalid value '0' for '--requests <N>': 0 is not in 1..=4294967296
 --users u.txt --mode pipe --requests 4294967297|!invalid value '4294967297' for '--requests <N>': 4294967297 is not in 1..=4294967296
+--users u.txt --mode pipe --idle 0|!invalid value '0' for '--idle <N>': 0 is not in 1..=86400
+--users u.txt --mode pipe --idle 86401|!invalid value '86401' for '--idle <N>': 86401 is not in 1..=86400
+--users u.txt --mode pipe --until-eof=x|!unexpected value 'x' for '--until-eof' found; no more were expected
+--users u.txt --mode pipe --until-eof --until-eof|!the argument '--until-eof' cannot be used multiple times
 --users u.txt --mode pipe more|!unexpected argument 'more' found
 --users u.txt --mode pipe --seed 1|!unexpected argument '--seed' found
 --seed 1 --help|!unexpected argument '--seed' found
@@ -70,8 +77,10 @@ Options:
       --mode <MODE>       pipe: one connection over the standard input and output; serve: connections at an address
       --listen <ADDRESS>  The address of mode serve, as 127.0.0.1:8008
       --workers <N>       Writers of each stream, 1 to 16 [default: 1]
-      --connections <N>   Connections at once in mode serve, 1 to 64 [default: 8]
+      --connections <N>   Connections at once in mode serve, 1 to 1000 [default: 64]
       --requests <N>      Requests that a connection is served, 1 to 4294967296 [default: 1000]
+      --idle <N>          Seconds that a connection may be silent in mode serve, 1 to 86400 [default: 60]
+      --until-eof         In mode serve, end once the standard input has ended
   -h, --help              Print help
   -V, --version           Print version
 ";
@@ -87,7 +96,8 @@ fn split(alloc: Global, text: &str) -> Result<Vec<String>, AllocError> {
     Ok(words)
 }
 
-/// Whether words say this: the users file, the address, the writers, the connections and the requests.
+/// Whether words say this: the users file, the address, the writers, the connections, the requests, the seconds of silence and
+/// the end.
 fn say(words: &Words, told: &str) -> bool {
     let address = match &words.mode {
         Mode::Pipe => "-",
@@ -97,8 +107,10 @@ fn say(words: &Words, told: &str) -> bool {
     fields.next() == Some(words.users.as_str())
         && fields.next() == Some(address)
         && is_number(fields.next(), u64::from(words.workers))
-        && is_number(fields.next(), u64::from(words.connections))
+        && is_number(fields.next(), words.connections)
         && is_number(fields.next(), words.requests)
+        && is_number(fields.next(), words.idle)
+        && fields.next() == Some(if words.until_eof { "yes" } else { "no" })
 }
 
 fn is_number(field: Option<&str>, number: u64) -> bool {
@@ -137,8 +149,8 @@ fn first_other(alloc: Global, table: &str) -> Result<u64, AllocError> {
 #[test]
 fn words_are_read_or_refused(rt: HostRuntime) -> Result<(), Fail> {
     assert_eq!(rt; first_other(rt.alloc(), TABLE)?, 0);
-    let eight =
-        "--users u.txt --mode pipe|u.txt - 1 8 1000\n--users u.txt --mode pipe|u.txt - 1 9 1000\n";
-    assert_eq!(rt; first_other(rt.alloc(), eight)?, 2);
+    let second =
+        "--users u.txt --mode pipe|u.txt - 1 64 1000 60 no\n--users u.txt --mode pipe|u.txt - 1 65 1000 60 no\n";
+    assert_eq!(rt; first_other(rt.alloc(), second)?, 2);
     Ok(())
 }

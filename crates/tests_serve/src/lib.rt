@@ -15,6 +15,8 @@ mod default_rules;
 #[cfg(test)]
 mod ends;
 #[cfg(test)]
+mod hostile;
+#[cfg(test)]
 mod make;
 #[cfg(test)]
 mod meeting;
@@ -32,6 +34,8 @@ mod seats;
 mod servers;
 #[cfg(test)]
 mod sessions;
+#[cfg(test)]
+mod silence;
 #[cfg(test)]
 mod sync_tables;
 #[cfg(test)]

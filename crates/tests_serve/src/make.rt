@@ -104,7 +104,7 @@ pub fn expect_by<R: Abort + Wait + rt::Clock + Threads + Copy + Drop + Send + 's
 }
 
 /// The status of a run with these words.
-fn status_of<R: Abort + Wait + rt::Clock + Threads + Copy + Drop + Send + 'static>(
+pub fn status_of<R: Abort + Wait + rt::Clock + Threads + Copy + Drop + Send + 'static>(
     rt: &R,
     alloc: Global,
     words: &[String],

@@ -176,11 +176,13 @@ fn a_job_that_is_refused_ends_a_server(rt: HostRuntime) -> Result<(), Fail> {
     Ok(())
 }
 
-/// A listener in memory that counts how often it was bound to the address of the words, and 100 for each other address.
+/// A listener in memory that counts how often it was bound to the address of the words, and 100 for each other address; and how long its
+/// connections may be silent.
 #[derive(Drop)]
 struct AddressListener {
     pairs: MemListener<MemSource, WholeSink>,
     bound: u64,
+    silence: u64,
 }
 
 impl Listener for AddressListener {
@@ -193,6 +195,14 @@ impl Listener for AddressListener {
     ghost left = { λ _. None };
 
     ghost faults = { λ l. l.pairs.plan.faults };
+
+    fn limit_silence(&mut self, seconds: u64) {
+        self.silence = seconds;
+    }
+
+    fn end_with_input(&mut self) {
+        self.bound = self.bound.saturating_add(10);
+    }
 
     fn listen(&mut self, address: &str) -> Listened {
         self.bound = self
@@ -207,22 +217,24 @@ impl Listener for AddressListener {
 }
 
 #[test]
-fn a_server_binds_the_address_of_its_words(rt: HostRuntime) -> Result<(), Fail> {
+fn a_server_is_told_the_address_and_the_silence_of_its_words(rt: HostRuntime) -> Result<(), Fail> {
     let alloc = rt.alloc();
     let whole = Arc::new(alloc, AtomicU64::new(0))?;
     let pairs = Vec::from_array(alloc, [pair(alloc, FIRST, &whole)?])?;
     let mut listener = AddressListener {
         pairs: MemListener::new(pairs, Vec::new(alloc)),
         bound: 0,
+        silence: 0,
     };
     let mut spawner = Spawner::in_caller(Vec::new(alloc));
     let told = "mxsync: listening on here\n";
     let status = status_of(&rt, alloc, &mut listener, &mut spawner, told);
     let bound = listener.bound;
+    let silence = listener.silence;
     drop(spawner);
     drop(listener);
     let sent = whole.load(Ordering::SeqCst);
     drop(whole);
-    assert_eq!(rt; (status?, bound, sent), (0, 1, 1));
+    assert_eq!(rt; (status?, bound, silence, sent), (0, 1, 60, 1));
     Ok(())
 }
