@@ -14,8 +14,7 @@ use mx_snapshot::Events;
 use mx_visible::{Membership, membership_of};
 use std::alloc::Global;
 
-/// The summary that a user gets of a room at a position. Takes the time of a search for each member event of the room up to
-/// it.
+/// The summary that a user gets of a room at a position. Takes the time of `members`.
 pub fn summary(
     alloc: Global,
     events: &Events,

@@ -1,5 +1,5 @@
 pub mod Asks
 pub mod Forms
 pub mod Laws
-pub mod Members
 pub mod Pages
+pub mod Opening

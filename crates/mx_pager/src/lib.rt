@@ -17,6 +17,7 @@ mod fault;
 mod forms;
 mod laws;
 mod members;
+mod opening;
 mod paging;
 mod seeing;
 mod sent;

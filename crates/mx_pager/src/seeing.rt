@@ -10,14 +10,27 @@ ghost use Rattle.mx_view.specs.Readings.{viewer_of};
 ghost use Rattle.mx_visible.specs.Walks.{all_sighted};
 ghost use Rattle.mx_window.specs.Windows.{between};
 
+use crate::opening::may_see;
 use mx_ids::Memory;
 use mx_parts::Reading;
 use mx_visible::{Sighted, sight};
 use std::alloc::Global;
 
-/// Whether the user sees an event of the room at the front. Takes the time of the room's events from the front back, by
-/// stretches that grow by four until one is visible, and of some searches.
+/// Whether the user sees an event of the room at the front. Where it was never joined or invited and the room never open to
+/// everyone, takes the time of `may_see`; else that of the room's events from the front back, by stretches that grow by four
+/// until one is visible, and of some searches.
 pub(crate) fn sees_room(alloc: Global, reading: &Reading<'_>) -> Result<bool, Memory>
+    ensures { IfOk result (λ b. b ≡ sent.sees reading.now.user.now (events_of reading.now) (front_of reading.now)) }
+{
+    let may = may_see(alloc, reading)?;
+    if may {
+        sees_some(alloc, reading)
+    } else {
+        Ok(false)
+    }
+}
+
+fn sees_some(alloc: Global, reading: &Reading<'_>) -> Result<bool, Memory>
     ensures { IfOk result (λ b. b ≡ sent.sees reading.now.user.now (events_of reading.now) (front_of reading.now)) }
 {
     let front = reading.events.front();

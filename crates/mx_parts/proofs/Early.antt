@@ -17,8 +17,8 @@ use Rattle.mx_lazy.specs.Picks.{HasSenders, names, names_key, picked, picked_as}
 use Rattle.mx_lazy.specs.declared.picker.Pick.TheVariants as kind
 use Rattle.mx_lazy.specs.declared.picker.Picker.{Picker}
 use Rattle.mx_snapshot.specs.Events.{states}
-use Rattle.mx_state.specs.Standing.{stands}
-use Rattle.mx_state.proofs.Standing as standing
+use Rattle.mx_lazy.specs.State.Standing.{stands}
+use Rattle.mx_lazy.proofs.State.Standing as standing
 use Rattle.mx_view.specs.Rooms.{Key}
 use Rattle.mx_parts.specs.Picks.{Covers, NamesAll, hero_pair, is_early_by, is_kept_by, is_sent_by, key_pair, sender_pair}
 use Rattle.mx_parts.specs.Readings.{events_of, room_in, sieve}

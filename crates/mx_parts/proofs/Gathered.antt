@@ -19,7 +19,7 @@ use Rattle.mx_folding.specs.Visible.{is_visible}
 use Rattle.mx_view.specs.Readings.{viewer_of}
 use Rattle.mx_view.specs.Rooms.{Key, Sieve, room_of}
 use Rattle.mx_snapshot.specs.Looks.{all_now}
-use Rattle.mx_visible.specs.Walks.{sights}
+use Rattle.mx_lazy.specs.OfVisible.Walks.{sights}
 use Rattle.mx_parts.specs.Gathers.{cuts, gathered, all_sent}
 
 fold-map : {A B X : Type 0} (h : X → B → X) (m : A → B) (x : X) (xs : List A) → fold h x (map m xs) ≡ fold (λ y a. h y (m a)) x xs

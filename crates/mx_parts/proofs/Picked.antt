@@ -20,9 +20,9 @@ use Rattle.mx_lazy.specs.declared.picker.Pick.TheVariants as kind
 use Rattle.mx_lazy.specs.declared.picker.Picker.{Picker}
 use Rattle.mx_lazy.proofs.Picking.{picks_same}
 use Rattle.mx_snapshot.specs.Events.{states}
-use Rattle.mx_state.specs.Standing.{standing_in, stands}
-use Rattle.mx_state.proofs.Standing as standing
-use Rattle.mx_state.proofs.Standing.{standing_is}
+use Rattle.mx_lazy.specs.State.Standing.{standing_in, stands}
+use Rattle.mx_lazy.proofs.State.Standing as standing
+use Rattle.mx_lazy.proofs.State.Standing.{standing_is}
 use Rattle.mx_window.specs.Windows.{stand_from}
 use Rattle.mx_parts.specs.Picks.{is_kept_by, is_sent_by, start_by, states_by}
 use Rattle.mx_parts.specs.Readings.{events_of, room_in, sieve}

@@ -4,7 +4,7 @@ use Rattle.std.proofs.lemmas.Bool.{eqb-true}
 use Rattle.mx_window.specs.Windows.{stand_from}
 use Rattle.mx_event.specs.Shown.{position_of}
 use Rattle.mx_event.specs.declared.event.Event.{Event}
-use Rattle.mx_visible.proofs.LastJoin.{room_ascends}
+use Rattle.mx_lazy.proofs.OfVisible.LastJoin.{room_ascends}
 use Rattle.mx_parts.specs.Gathers.{IsFound, from_low}
 use Rattle.mx_parts.specs.Readings.{events_of, front_of, room_in}
 use Rattle.mx_parts.specs.declared.reading.Reading.{Reading}

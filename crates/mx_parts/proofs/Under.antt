@@ -22,8 +22,8 @@ use Rattle.mx_event.specs.Shown.{position_of}
 use Rattle.mx_event.specs.State.{standing}
 use Rattle.mx_event.specs.declared.event.Event.{Event}
 use Rattle.mx_folding.specs.Parts.{state_list}
-use Rattle.mx_state.specs.Standing.{is_at, stands, stands_under}
-use Rattle.mx_state.proofs.Standing.{state_is}
+use Rattle.mx_lazy.specs.State.Standing.{is_at, stands, stands_under}
+use Rattle.mx_lazy.proofs.State.Standing.{state_is}
 use Rattle.mx_view.specs.Rooms.{Sieve, room_of}
 use Rattle.mx_parts.specs.Under.{all_standing, event_in, found_now, is_under, put_found, put_standing}
 use Rattle.mx_parts.specs.declared.under_keys.StateKey.{StateKey}

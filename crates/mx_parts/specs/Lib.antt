@@ -4,3 +4,5 @@ pub mod Picks
 pub mod Readings
 pub mod Sections
 pub mod Shows
+pub mod Lazy
+pub mod OfVisible

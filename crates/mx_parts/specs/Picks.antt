@@ -10,7 +10,7 @@ use Rattle.mx_view.specs.Rooms.{Key}
 use Rattle.mx_lazy.specs.Picks.{names, picked}
 use Rattle.mx_lazy.specs.declared.picker.Picker.{Picker}
 use Rattle.mx_parts.specs.Readings.{events_of, sieve}
-use Rattle.mx_state.specs.Standing.{stands}
+use Rattle.mx_lazy.specs.State.Standing.{stands}
 use Rattle.mx_parts.specs.Under.{is_under}
 use Rattle.mx_parts.specs.declared.reading.Reading.{Reading}
 use Rattle.mx_parts.specs.declared.under_keys.StateKey.{StateKey}

@@ -6,14 +6,14 @@ ghost use Rattle.mx_parts.specs.Gathers as gather;
 ghost use Rattle.mx_parts.specs.Gathers.{IsFound};
 ghost use Rattle.mx_parts.specs.Readings.{IsRead, sieve};
 ghost use Rattle.mx_snapshot.specs.Looks.{all_now};
-ghost use Rattle.mx_visible.specs.Walks.{all_sighted, sighted};
+ghost use Rattle.mx_lazy.specs.OfVisible.Walks.{all_sighted, sighted};
 
 use crate::reading::Reading;
 use crate::window::Window;
 use mx_event::Event;
 use mx_filter::Part;
 use mx_ids::Memory;
-use mx_visible::{Sighted, sight};
+use mx_lazy::{Sighted, sight};
 use std::alloc::Global;
 
 /// The events of a window that may be sent, and the index at which its section begins.

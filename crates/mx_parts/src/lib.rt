@@ -25,11 +25,15 @@ mod under_keys;
 mod window;
 
 pub use laws::parts_are;
+pub use mx_lazy::{
+    Membership, Pick, Summary, last_join, members, membership_of, state_at, stayed_joined, visible,
+};
 pub use part::RoomPart;
 pub use reading::Reading;
 pub use sending::sendable;
 pub use sent::room_part;
 pub use settling::section;
 pub use showing::all_shown;
+pub use state::sender_keys;
 pub use under_keys::{StateKey, standing_under};
 pub use window::{Section, Window};

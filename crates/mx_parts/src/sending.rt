@@ -5,13 +5,13 @@ ghost use Rattle.mx_folding.specs.Sections as sections;
 ghost use Rattle.mx_parts.specs.Gathers as gather;
 ghost use Rattle.mx_parts.specs.Readings.{IsRead, events_of, front_of, room_in, sieve};
 ghost use Rattle.mx_snapshot.specs.Looks.{all_now};
-ghost use Rattle.mx_visible.specs.Walks.{all_sighted, sighted};
+ghost use Rattle.mx_lazy.specs.OfVisible.Walks.{all_sighted, sighted};
 
 use crate::gathering::passes;
 use crate::reading::Reading;
 use mx_event::Event;
 use mx_ids::Memory;
-use mx_visible::{Sighted, sight};
+use mx_lazy::{Sighted, sight};
 use std::alloc::Global;
 
 /// The events at the positions after `low` and up to `high` that the user sees and that the timeline filter passes, in order

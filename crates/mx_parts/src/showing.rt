@@ -14,8 +14,8 @@ ghost use Rattle.mx_view.specs.Shows.{shown_for};
 use crate::reading::Reading;
 use mx_event::{Event, Shown, redact};
 use mx_ids::{Copied, Memory, Seq};
+use mx_lazy::visible;
 use mx_snapshot::first_redactions_are;
-use mx_visible::visible;
 use std::alloc::Global;
 
 /// Copies of events of the room, as they are shown to the user at the front. Takes the time of a look-up for each, and of

@@ -13,8 +13,7 @@ use crate::under_keys::{StateKey, standing_under};
 use mx_event::Event;
 use mx_event::event_types::MEMBER;
 use mx_ids::{Memory, Seq, Text};
-use mx_lazy::{Pick, Picker};
-use mx_state::{is_standing, state_at};
+use mx_lazy::{Pick, Picker, is_standing, state_at};
 use std::alloc::Global;
 
 /// Of the room's state at a position what the state filter passes and is picked, in order of position; `named` says whether
@@ -184,6 +183,15 @@ pub(crate) fn named_keys<'b>(
         add_senders(&mut keys, events)?;
         add_heroes(&mut keys, heroes)?;
     }
+    Ok(keys)
+}
+
+/// The keys of the member events of the senders of these events.
+pub fn sender_keys<'b>(alloc: Global, events: &'b [&'b Event]) -> Result<Vec<StateKey<'b>>, Memory>
+    ensures { IfOk result (λ keys. map key_pair keys.items ≡ map sender_pair (all_now events.now)) }
+{
+    let mut keys = Vec::new(alloc);
+    add_senders(&mut keys, events)?;
     Ok(keys)
 }
 

@@ -8,7 +8,7 @@ use Rattle.mx_ids.proofs.text.Text.TheSendSync as text
 use Rattle.mx_ids.proofs.user.UserId.TheSendSync as user
 use Rattle.mx_json.specs.contracts.value.Json as Json
 use Rattle.mx_json.proofs.value.Json.TheLaws.TheKnot.{crosses as json}
-use Rattle.mx_lanes.proofs.parts.Parts.TheSendSync as parts
+use Rattle.mx_receipt.proofs.Lanes.Parts as parts
 use Rattle.mx_event.specs.contracts.event.Event as Event
 use Rattle.mx_event.proofs.event.Txn.TheSendSync as txn
 use Rattle.mx_account.specs.contracts.entry.Entry as Entry

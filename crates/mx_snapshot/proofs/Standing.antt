@@ -23,7 +23,7 @@ use Rattle.mx_window.proofs.Each.{AllByRecursion-both, AllByRecursion-every, All
 use Rattle.mx_window.proofs.Intervals.{Ascends-between, Ascends-filter}
 use Rattle.mx_window.proofs.Lasts.{last_of-some, none-last_of}
 use Rattle.mx_window.proofs.Sections.{Ascends-after}
-use Rattle.mx_event.specs.Kinds.{has_key, is_text}
+use Rattle.mx_event.specs.Kinds.{has_key, is_of, is_text}
 use Rattle.mx_event.specs.Lawful.{of_room, same_room}
 use Rattle.mx_event.specs.Shown.{position_of}
 use Rattle.mx_event.specs.State.{standing}
@@ -244,6 +244,80 @@ module _ (es : List Event) (room : RoomId) (q : ℕ) where
         (λ e own. subst (λ l. IsPermutation l (last_upto q e.1.items)) (sym (key_stands kind (string_bytes e.0) ∙ ap (last_upto q) (sym (each (string_bytes e.0)) ∙ ap listed own))) (IsPermutation-refl (last_upto q e.1.items)))
         keys (own_found keys order))
 
+    -- ---- of one type
+
+    module _ (kind : List ℕ) (keys : List (String Global × Vec ℕ)) (each : (key : List ℕ) → listed (lookup (is_key key) keys) ≡ map position_of (versions room kind key es)) where
+      -- a state event of the room and the type is under one of the keys
+      under_key : (x : Event) (key : List ℕ) → x.state_key ≡ Some key → bytes_eq x.kind kind ≡ true → list_any (is_version room kind key) es ≡ true → list_any (λ e. key_test kind e x) keys ≡ true
+      under_key x key is of_kind there = by_key (lookup (is_key key) keys) refl
+        where
+          by_key : (o : Option (Vec ℕ)) → lookup (is_key key) keys ≡ o → list_any (λ e. key_test kind e x) keys ≡ true
+          by_key None missing = absurd (not_empty (is_version room kind key) es there (sym (each key) ∙ ap listed missing))
+          by_key (Some v) own =
+              some_entry (is_key key) (λ h. key_test kind h x) keys v own
+              (λ t same. and_from (bytes_eq x.kind kind) (is_text (string_bytes t) x.state_key) of_kind (ap (is_text (string_bytes t)) is ∙ key_same key t same))
+
+      no_key : (x : Event) → bytes_eq x.kind kind ≡ false → list_any (λ e. key_test kind e x) keys ≡ false
+      no_key x other =
+          list_any-none (λ e. key_test kind e x) keys
+          (AllByRecursion-every (λ (e : String Global × Vec ℕ). key_test kind e x ≡ false) (λ e. ap (λ b. b && is_text (string_bytes e.0) x.state_key) other) keys)
+
+      one_typed : (x : Event) → (same_room x.room room ≡ true) × ((p : Event → Bool) → p x ≡ true → list_any p es ≡ true) → (o : Option (List ℕ)) → x.state_key ≡ o → (b : Bool) → bytes_eq x.kind kind ≡ b
+          → ((is_some x.state_key && keep x) && is_of kind x) ≡ (keep x && list_any (λ e. key_test kind e x) keys)
+      one_typed x h None none b is =
+          ap (λ (o : Option (List ℕ)). (is_some o && keep x) && is_of kind x) none
+          ∙ sym (ap (λ (o : Option (List ℕ)). stands_under (of_room room es) q x o && list_any (λ e. key_test kind e x) keys) none)
+      one_typed x h (Some key) some true is =
+          let there : list_any (is_version room kind key) es ≡ true =
+          h.1 (is_version room kind key) (and_from (same_room x.room room) (has_key kind key x) h.0
+          (and_from (bytes_eq x.kind kind) (is_text key x.state_key) is (ap (is_text key) some ∙ (bytes_eq-Decides key key).1 refl))) in
+          ap (λ (o : Option (List ℕ)). (is_some o && keep x) && is_of kind x) some
+          ∙ ap (λ b. keep x && b) (is ∙ sym (under_key x key some is there))
+      one_typed x h (Some key) some false is =
+          ap (λ (o : Option (List ℕ)). (is_some o && keep x) && is_of kind x) some
+          ∙ ap (λ b. keep x && b) (is ∙ sym (no_key x is))
+
+      -- what stands and is of the type is under one of the keys
+      typed : AllByRecursion (λ (x : Event). ((is_some x.state_key && keep x) && is_of kind x) ≡ (keep x && list_any (λ e. key_test kind e x) keys)) window
+      typed =
+          AllByRecursion-weaker (λ (x : Event). (same_room x.room room ≡ true) × ((p : Event → Bool) → p x ≡ true → list_any p es ≡ true))
+          (λ (x : Event). ((is_some x.state_key && keep x) && is_of kind x) ≡ (keep x && list_any (λ e. key_test kind e x) keys))
+          (λ x h. one_typed x h x.state_key refl (bytes_eq x.kind kind) refl) window
+          (AllByRecursion-filter (λ (x : Event). (same_room x.room room ≡ true) × ((p : Event → Bool) → p x ≡ true → list_any p es ≡ true)) (λ (x : Event). nat_lt 0 x.id.at && nat_le x.id.at q) (of_room room es)
+          (AllByRecursion-both (λ (x : Event). same_room x.room room ≡ true) (λ (x : Event). (p : Event → Bool) → p x ≡ true → list_any p es ≡ true) (of_room room es)
+          (AllByRecursion-passed (λ (x : Event). same_room x.room room) es)
+          (AllByRecursion-filter (λ (x : Event). (p : Event → Bool) → p x ≡ true → list_any p es ≡ true) (λ (x : Event). same_room x.room room) es (all_any es))))
+
+      same_type : filter (is_of kind) (standing_in room 0 q es) ≡ filter (λ x. keep x && list_any (λ e. key_test kind e x) keys) window
+      same_type =
+          ap (filter (is_of kind))
+          (ap (λ l. filter keep (between position_of 0 q l)) (sym (twice (λ (x : Event). is_some x.state_key) (λ (x : Event). same_room x.room room) es))
+          ∙ ap (filter keep) (filter-swap (λ (x : Event). nat_lt 0 x.id.at && nat_le x.id.at q) (λ (x : Event). is_some x.state_key) (of_room room es))
+          ∙ twice keep (λ (x : Event). is_some x.state_key) window)
+          ∙ twice (is_of kind) (λ (x : Event). is_some x.state_key && keep x) window
+          ∙ filter-same (λ x. (is_some x.state_key && keep x) && is_of kind x) (λ x. keep x && list_any (λ e. key_test kind e x) keys) window typed
+
+      pub type_stands : (ps : List ℕ) → IsStrictlySortedBy string_cmp (keys_of keys) → IsPermutation (key_lasts q keys) ps → IsNonDecreasingBy itself ps
+          → looked es ps ≡ filter (is_of kind) (standing_in room 0 q es)
+      type_stands ps order moved rises = ap (looked es) (sym same) ∙ looked_is position_of es (filter (is_of kind) (standing_in room 0 q es)) found
+        where
+          rising_state : Ascends position_of 0 (filter (is_of kind) (standing_in room 0 q es))
+          rising_state =
+              Ascends-filter position_of 0 (is_of kind) (standing_in room 0 q es)
+              (Ascends-filter position_of 0 keep (between position_of 0 q (states room es))
+              (Ascends-filter position_of 0 (λ (x : Event). nat_lt 0 x.id.at && nat_le x.id.at q) (states room es) (Ascends-filter position_of 0 (is_state room) es (placed_ascends position_of es placed))))
+
+          found : AllByRecursion (Found position_of es) (filter (is_of kind) (standing_in room 0 q es))
+          found =
+              AllByRecursion-filter (Found position_of es) (is_of kind) (standing_in room 0 q es)
+              (AllByRecursion-filter (Found position_of es) keep (between position_of 0 q (states room es))
+              (AllByRecursion-filter (Found position_of es) (λ (x : Event). nat_lt 0 x.id.at && nat_le x.id.at q) (states room es) (AllByRecursion-filter (Found position_of es) (is_state room) es (all_found position_of es placed))))
+
+          same : map position_of (filter (is_of kind) (standing_in room 0 q es)) ≡ ps
+          same =
+              same_sorted (map position_of (filter (is_of kind) (standing_in room 0 q es))) ps (rising position_of 0 (filter (is_of kind) (standing_in room 0 q es)) rising_state) rises
+              (IsPermutation-trans _ _ _ (subst (λ l. IsPermutation (map position_of l) (key_lasts q keys)) (sym same_type) (type_found kind keys order each)) moved)
+
     module _ (kinds : List (String Global × Keys)) (each : (kind key : List ℕ) → key_in (lookup (is_key kind) kinds) key ≡ map position_of (versions room kind key es)) where
       all_lasts : IsStrictlySortedBy string_cmp (keys_of kinds) → EachOrdered kinds
           → IsPermutation (map position_of (filter (λ x. keep x && list_any (λ e. kind_test e x) kinds) window)) (kind_lasts q kinds)
@@ -320,3 +394,8 @@ module _ (es : List Event) (room : RoomId) (q : ℕ) where
 pub none_stands : (es : List Event) (room : RoomId) (q : ℕ) → stand_from position_of 1 es ≡ true → ((kind key : List ℕ) → [] ≡ map position_of (versions room kind key es)) → [] ≡ standing_in room 0 q es
 unfolding IsStrictlySortedBy
 none_stands es room q placed each = walk_stands es room q placed [] each [] tt tt (IsPermutation-refl []) (λ i j d order within. absurd (omega (arith, within)))
+
+-- a room without events of a type has none of it in its state
+pub none_typed : (es : List Event) (room : RoomId) (q : ℕ) → stand_from position_of 1 es ≡ true → (kind : List ℕ) → ((key : List ℕ) → [] ≡ map position_of (versions room kind key es)) → [] ≡ filter (is_of kind) (standing_in room 0 q es)
+unfolding IsStrictlySortedBy
+none_typed es room q placed kind each = type_stands es room q placed kind [] each [] tt (IsPermutation-refl []) (λ i j d order within. absurd (omega (arith, within)))

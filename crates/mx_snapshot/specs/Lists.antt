@@ -51,6 +51,11 @@ abbrev pub kind_in : Option Kinds → List ℕ → List ℕ → List ℕ
 kind_in None kind key = []
 kind_in (Some m) kind key = kind_at m kind key
 
+-- the keys of a type
+abbrev pub type_in : Option Kinds → List ℕ → Option Keys
+type_in None kind = None
+type_in (Some m) kind = get_by_text m kind
+
 abbrev pub version_at : BTreeMap RoomId Kinds → RoomId → List ℕ → List ℕ → List ℕ
 version_at m room kind key = kind_in (tree.get room_cmp m room) kind key
 

@@ -2,7 +2,7 @@
 
 ghost use Rattle.std.specs.Prelude.{◌≡◌, ◌≤◌, ◌<◌, ◌+◌, [], Some, None, length, take, IfOk, OnErr, OnOk};
 ghost use Rattle.std.specs.Option.{option_copied};
-ghost use Rattle.mx_core.specs.History.{Begins};
+ghost use Rattle.mx_event.specs.Core.History.{Begins};
 ghost use Rattle.mx_window.specs.Lasts.{last_of};
 ghost use Rattle.mx_window.specs.Windows.{between};
 ghost use Rattle.mx_account.specs.Entries.{is_data_of, position_of};
@@ -17,7 +17,7 @@ use crate::positions::{last_one, last_to, within};
 use crate::steps::Steps;
 use mx_account::Entry;
 use mx_ids::{Memory, RoomId};
-use mx_lanes::Parts;
+use mx_receipt::Parts;
 use std::alloc::Global;
 use std::marker::Model;
 

@@ -1,11 +1,11 @@
 //! The events of a stream up to its front.
 
-ghost use Rattle.std.specs.Prelude.{◌*◌, ◌-◌, ◌^◌, ◌≡◌, ◌≤◌, ◌<◌, ◌+◌, [], option_map, ◌++◌, true, length, map, take, nat_le, IfOk, OnErr, OnOk};
+ghost use Rattle.std.specs.Prelude.{◌*◌, ◌-◌, ◌^◌, ◌≡◌, ◌≤◌, ◌<◌, ◌+◌, [], option_map, ◌++◌, true, filter, length, map, take, nat_le, IfOk, OnErr, OnOk};
 ghost use Rattle.std.specs.Option.{option_copied, option_to_list};
-ghost use Rattle.mx_core.specs.History.{Begins};
+ghost use Rattle.mx_event.specs.Core.History.{Begins};
 ghost use Rattle.mx_window.specs.Lasts.{keep_if, last, last_of};
 ghost use Rattle.mx_window.specs.Windows.{between, stand_from};
-ghost use Rattle.mx_event.specs.Kinds.{has_key};
+ghost use Rattle.mx_event.specs.Kinds.{has_key, is_of};
 ghost use Rattle.mx_event.specs.Lawful.{of_room, same_room};
 ghost use Rattle.mx_event.specs.Shown.{position_of};
 ghost use Rattle.mx_snapshot.specs.Indexed.{IsIndexed};
@@ -15,13 +15,13 @@ ghost use Rattle.mx_snapshot.specs.Looks.{all_now, at_position, last_position, o
 
 use crate::event_index::EventIndex;
 use crate::gather::gather;
-use crate::last_versions::last_versions;
-use crate::looks::{number_at, room_positions, version_positions};
+use crate::last_versions::{last_keys, last_versions};
+use crate::looks::{number_at, room_positions, type_keys, version_positions};
 use crate::positions::{ending, last_one, last_to, within};
 use crate::steps::Steps;
 use mx_event::Event;
 use mx_ids::{Memory, RoomId};
-use mx_lanes::Parts;
+use mx_receipt::Parts;
 use std::alloc::Global;
 use std::collections::BTreeMap;
 use std::marker::Model;
@@ -185,6 +185,27 @@ impl Events {
         match self.index.versions.get(room) {
             Some(kinds) => {
                 let positions = last_versions(alloc, kinds, position)?;
+                gather(alloc, &self.events, positions.as_slice())
+            }
+            None => Ok(Vec::new(alloc)),
+        }
+    }
+
+    /// Those of the room's state at a position that are of a type, in their order. Takes the time of a search for each key that
+    /// the room has a state event of this type with, and of sorting what is found; memory for as many positions and
+    /// references.
+    pub fn standing_of(
+        &self,
+        alloc: Global,
+        room: &RoomId,
+        kind: &str,
+        position: u64,
+    ) -> Result<Vec<&Event>, Memory>
+        ensures { IfOk result (λ made. all_now made.items ≡ filter (is_of kind.now) (standing_in room.now 0 position self.now)) }
+    {
+        match type_keys(&self.index.versions, room, kind) {
+            Some(keys) => {
+                let positions = last_keys(alloc, keys, position)?;
                 gather(alloc, &self.events, positions.as_slice())
             }
             None => Ok(Vec::new(alloc)),

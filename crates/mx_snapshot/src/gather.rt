@@ -5,7 +5,7 @@ ghost use Rattle.std.specs.Option.{option_to_list};
 ghost use Rattle.mx_snapshot.specs.Looks.{all_now, at_position, looked};
 
 use mx_ids::Memory;
-use mx_lanes::Parts;
+use mx_receipt::Parts;
 use std::alloc::Global;
 
 /// The items at some positions, in their order. Takes memory for as many references.

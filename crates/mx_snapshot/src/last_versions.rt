@@ -29,6 +29,19 @@ pub(crate) fn last_versions(alloc: Global, kinds: &Kinds, last: u64) -> Result<V
     Ok(found)
 }
 
+/// The same of the keys of one type.
+pub(crate) fn last_keys(alloc: Global, keys: &Keys, last: u64) -> Result<Vec<u64>, Memory>
+    requires { (k : List ℕ) → IsNonDecreasingBy itself (key_at keys.now k) }
+    ensures ordered { OnOk result (tree.IsOrdered string_cmp keys.now) }
+    ensures found { IfOk result (λ made. IsPermutation (key_lasts last keys.now.entries) made.items) }
+    ensures rising { IfOk result (λ made. IsNonDecreasingBy itself made.items) }
+{
+    let mut found = Vec::new(alloc);
+    push_kind(&mut found, keys, last)?;
+    found.sort_unstable();
+    Ok(found)
+}
+
 /// Puts the last positions of all keys of a type behind others.
 fn push_kind(found: &mut Vec<u64>, keys: &Keys, last: u64) -> Result<(), Memory>
     requires { (k : List ℕ) → IsNonDecreasingBy itself (key_at keys.now k) }

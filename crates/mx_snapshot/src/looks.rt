@@ -1,7 +1,9 @@
 //! What the parts of an index have at a key.
 
 ghost use Rattle.std.specs.Prelude.{◌≡◌, slice_index_or};
-ghost use Rattle.mx_snapshot.specs.Lists.{room_at, key_at, kind_at, version_at};
+ghost use Rattle.std.specs.BTreeMap as tree;
+ghost use Rattle.std.specs.Option.{option_copied};
+ghost use Rattle.mx_snapshot.specs.Lists.{room_at, room_cmp, key_at, kind_at, type_in, version_at};
 
 use crate::lists::{Keys, Kinds};
 use mx_ids::RoomId;
@@ -42,6 +44,17 @@ pub(crate) fn kind_positions<'a>(kinds: &'a Kinds, kind: &str, key: &str) -> &'a
         Some(keys) => key_positions(keys, key),
         None => &[],
     }
+}
+
+/// The keys of a room and a type, with their positions.
+pub(crate) fn type_keys<'a>(
+    rooms: &'a BTreeMap<RoomId, Kinds>,
+    room: &RoomId,
+    kind: &str,
+) -> Option<&'a Keys>
+    ensures { option_copied result ≡ type_in (tree.get room_cmp rooms.now room.now) kind.now }
+{
+    rooms.get(room)?.get(kind)
 }
 
 /// The positions of a room, a type and a key.

@@ -2,7 +2,7 @@
 
 ghost use Rattle.std.specs.Prelude.{◌≡◌, ◌≤◌, ◌<◌, ◌+◌, [], length, take, IfOk, OnErr, OnOk};
 ghost use Rattle.std.specs.Option.{option_copied};
-ghost use Rattle.mx_core.specs.History.{Begins};
+ghost use Rattle.mx_event.specs.Core.History.{Begins};
 ghost use Rattle.mx_window.specs.Windows.{between};
 ghost use Rattle.mx_event.specs.Lawful.{same_room};
 ghost use Rattle.mx_receipt.specs.Receipts.{AreInPlace, position_of};
@@ -14,8 +14,7 @@ use crate::looks::{room_positions, version_positions};
 use crate::positions::{last_one, within};
 use crate::receipt_index::{ReceiptIndex, kind_name};
 use mx_ids::{Memory, RoomId};
-use mx_lanes::Parts;
-use mx_receipt::{Receipt, ReceiptKind};
+use mx_receipt::{Parts, Receipt, ReceiptKind};
 use std::alloc::Global;
 use std::marker::Model;
 

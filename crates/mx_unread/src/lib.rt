@@ -38,6 +38,7 @@ mod window;
 pub use beginning::tally;
 pub use counting::counts;
 pub use laws::{counts_stay, tallies_last};
+pub use mx_lazy::{Summary, summary};
 pub use pooling::counts_with;
 pub use running::Tally;
 pub use stored_rules::rules_at;

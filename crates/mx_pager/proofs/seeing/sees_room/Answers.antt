@@ -1,8 +1,8 @@
-use Rattle.std.proofs.Common.{sym, ◌∙◌}
-use Rattle.mx_pager.proofs.Upper.{seen_all}
+use Rattle.mx_parts.specs.Readings.{events_of, front_of}
+use Rattle.mx_pager.proofs.Unseen.{nothing_seen}
 use Rattle.mx_pager.proofs.seeing.sees_room.Goals as goal
 
-pub returns-then-is_settled : goal.returns-then-is_settled
-returns-then-is_settled c =
-    seen_all c.args.reading.now c.front-front.ensures.placed c.saturating_sub-low.result c.front-front.result c.in_ok-seen.seen c.front-front.ensures.count
-    c.in_ok-seen.ensures (sym c.is_settled.ensures ∙ c.if-is_settled.true)
+pub returns-else-may : goal.returns-else-may
+returns-else-may c =
+    let v = c.args.reading.now in
+    nothing_seen v.user.now (events_of v) (front_of v) c.in_ok-may.may c.in_ok-may.ensures c.if-may.false

@@ -2,8 +2,8 @@ use Rattle.std.proofs.Common.{drop, ap, ◌∙◌}
 use Rattle.mx_window.specs.Windows.{between}
 use Rattle.mx_event.specs.Shown.{position_of}
 use Rattle.mx_snapshot.specs.Looks.{all_now}
-use Rattle.mx_visible.specs.Walks.{all_sighted, sights}
-use Rattle.mx_visible.proofs.LastJoin.{room_ascends}
+use Rattle.mx_lazy.specs.OfVisible.Walks.{all_sighted, sights}
+use Rattle.mx_lazy.proofs.OfVisible.LastJoin.{room_ascends}
 use Rattle.mx_parts.specs.Readings.{events_of, front_of, sieve}
 use Rattle.mx_parts.proofs.Gathered.{walk_limited, walk_section, within_now}
 use Rattle.mx_parts.proofs.gathering.found.Goals as goal

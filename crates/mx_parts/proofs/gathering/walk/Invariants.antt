@@ -1,6 +1,6 @@
 use Rattle.std.proofs.Common.{◌≡◌, ◌≤◌, ◌++◌, [], length, drop, fold}
 use Rattle.mx_snapshot.specs.Looks.{all_now}
-use Rattle.mx_visible.specs.Walks.{all_sighted}
+use Rattle.mx_lazy.specs.OfVisible.Walks.{all_sighted}
 use Rattle.mx_parts.specs.Gathers.{all_sent, gathered}
 use Rattle.mx_parts.specs.Readings.{sieve}
 use Rattle.mx_parts.proofs.gathering.walk.Given as goal

@@ -1,7 +1,7 @@
 use Rattle.std.proofs.Common.{ap, ◌∙◌}
 use Rattle.mx_window.specs.Windows.{between}
 use Rattle.mx_event.specs.Shown.{position_of}
-use Rattle.mx_visible.specs.Walks.{all_sighted, sights}
+use Rattle.mx_lazy.specs.OfVisible.Walks.{all_sighted, sights}
 use Rattle.mx_parts.specs.Gathers.{all_sent}
 use Rattle.mx_parts.specs.Readings.{events_of, front_of, sieve}
 use Rattle.mx_parts.proofs.Gathered.{all_sent_is}

@@ -1,6 +1,6 @@
 use Rattle.std.proofs.Common.{◌≡◌, ◌++◌, drop}
 use Rattle.mx_snapshot.specs.Looks.{all_now}
-use Rattle.mx_visible.specs.Walks.{all_sighted}
+use Rattle.mx_lazy.specs.OfVisible.Walks.{all_sighted}
 use Rattle.mx_parts.specs.Gathers.{all_sent}
 use Rattle.mx_parts.specs.Readings.{sieve}
 use Rattle.mx_parts.proofs.sending.sent_among.Given as goal

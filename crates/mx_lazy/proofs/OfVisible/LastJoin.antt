@@ -1,0 +1,1 @@
+pub use Rattle.mx_visible.proofs.LastJoin.{room_ascends}

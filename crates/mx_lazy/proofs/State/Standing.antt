@@ -1,0 +1,1 @@
+pub use Rattle.mx_state.proofs.Standing.{standing_is, state_is}

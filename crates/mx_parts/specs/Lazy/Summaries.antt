@@ -1,0 +1,1 @@
+pub use Rattle.mx_lazy.specs.Summaries.{same_summary}

@@ -1,0 +1,1 @@
+pub use Rattle.mx_lazy.specs.OfVisible.Walks.{joins, last_join}

@@ -1,0 +1,1 @@
+pub use Rattle.mx_lazy.proofs.Still.{summary_still}

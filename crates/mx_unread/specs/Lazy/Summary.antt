@@ -1,0 +1,1 @@
+pub use Rattle.mx_lazy.specs.declared.room_summary.Summary.{Summary}
