@@ -12,6 +12,7 @@
 //! Begin with `aim.rt` and `site.rt`, then `routes.rt` with `specs/Aims.antt`; `events.rt` has the writer.
 #![tactic(auto)]
 
+mod again;
 mod aim;
 mod contents;
 mod creation;
@@ -24,6 +25,7 @@ mod routes;
 mod site;
 mod start;
 
+pub use again::event_draft;
 pub use aim::{Aim, Told};
 pub use creation::Creation;
 pub use entry_aims::{EntryAim, ReceiptAim};

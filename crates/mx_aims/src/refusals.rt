@@ -5,10 +5,10 @@ ghost use Rattle.mx_aims.specs.Asked.{create_refusal, event_refusal};
 ghost use Rattle.mx_aims.specs.Stored.{entry_refusal};
 
 use crate::events::EventFault;
-use mx_ask::Refusal;
 use mx_create::CreateFault;
 use mx_entries::EntryFault;
 use mx_room::RoomFault;
+use mx_room_reads::Refusal;
 
 /// Why account data isn't stored.
 pub fn entry_refusal(fault: EntryFault) -> Refusal

@@ -1,13 +1,12 @@
 -- What a log has after it was appended to and settled, and what a crash leaves of it.
-use Rattle.std.proofs.Common.{◌≡◌, ℕ, ◌+◌, ◌-◌, ◌<◌, ◌≤◌, zero, suc, List, [], ◌∷◌, ◌++◌, length, take, Option, Some, None, refl, sym, ap, ap₂, ◌∙◌, subst, arith, length-append}
+use Rattle.std.proofs.Common.{◌≡◌, ℕ, ◌+◌, ◌-◌, ◌≤◌, zero, suc, List, [], ◌∷◌, ◌++◌, length, take, Option, Some, None, refl, sym, ap, ap₂, ◌∙◌, subst, arith, length-append}
 use Rattle.std.proofs.lemmas.Option.{same_Some, none-some}
 use Rattle.std.proofs.lemmas.List.{append-nil}
 use Rattle.std.proofs.lemmas.Grind.{flat_map-append}
 use Rattle.std.proofs.Math.Seq.{take-append-add, take-append_seam}
 use Rattle.std.specs.List.{AllByRecursion}
-use Rattle.mx_outside.specs.declared.sink.Put.{Put}
 use Rattle.mx_outside.specs.declared.sink.Put.TheVariants as put
-use Rattle.mx_lines.specs.Lines.{IsOpen, IsRead, file_of, line}
+use Rattle.mx_lines.specs.Lines.{IsOpen, file_of, line}
 use Rattle.mx_lines.specs.Laws.{IsTorn}
 use Rattle.mx_lines.proofs.Torn.{torn}
 use Rattle.mx_log.specs.Logs.{Appends, Logged, Longer, MayLeave, Settles}

@@ -1,6 +1,6 @@
 //! Lines of a journal, as they are made and as they are found at the start.
 
-ghost use Rattle.std.specs.Prelude.{◌≡◌, ◌∷◌, [], ◌++◌, ℕ, List, true, OnOk, MatchOption};
+ghost use Rattle.std.specs.Prelude.{◌≡◌, ◌∷◌, [], ◌++◌, ℕ, List, true, OnOk, IsErrOf, MatchOption};
 ghost use Rattle.mx_lines.specs.Lines.{IsOpen, ends, file_of};
 ghost use Rattle.mx_journal.specs.Kept.{AreLines, IsFound};
 
@@ -27,9 +27,10 @@ impl From<Memory> for LineFault {
     }
 }
 
-/// Puts the line of a text behind other lines.
+/// Puts the line of a text behind other lines. At `End` these stay as they were.
 pub fn add_line(lines: &mut Vec<u8>, text: &[u8]) -> Result<(), LineFault>
-    ensures { (texts : List (List ℕ)) → AreLines lines.old.items texts → OnOk result (AreLines lines.new.items (texts ++ text.now ∷ [])) }
+    ensures same { IsErrOf result LineFault.End → lines.new ≡ lines.old }
+    ensures added { (texts : List (List ℕ)) → AreLines lines.old.items texts → OnOk result (AreLines lines.new.items (texts ++ text.now ∷ [])) }
 {
     if has_end(text) {
         return Err(LineFault::End);

@@ -1,5 +1,5 @@
 -- What is written is read.
-use Rattle.std.proofs.Common.{◌≡◌, ℕ, ℤ, pos, Bool, true, false, List, [], ◌∷◌, map, Option, Some, None, option_map, option_and_then, refl, sym, ap, ap₂, ◌∙◌}
+use Rattle.std.proofs.Common.{◌≡◌, ℕ, pos, Bool, false, List, [], ◌∷◌, map, Option, Some, None, option_and_then, refl, ap, ap₂, ◌∙◌}
 use Rattle.mx_ids.specs.declared.room_id.RoomId.{RoomId}
 use Rattle.mx_account.specs.declared.entry.Entry.{Entry}
 use Rattle.mx_account.specs.declared.entry.Entry.TheVariants as entry
@@ -7,7 +7,6 @@ use Rattle.mx_event.specs.declared.event.Event.{Event}
 use Rattle.mx_event.specs.declared.event.Txn.{Txn}
 use Rattle.mx_json.specs.Fields.{bool_in, bool_of, int_in, list_in, list_of, text_in, text_of}
 use Rattle.mx_json.specs.declared.value.Json.{Json}
-use Rattle.mx_json.specs.declared.value.Json.TheOpen.{Json-F}
 use Rattle.mx_json.specs.declared.value.Json.TheVariants as json
 use Rattle.mx_json.specs.declared.value.Json.TheViews.{outs-Bool, outs-Int, outs-List, outs-Null, outs-Text}
 use Rattle.mx_receipt.specs.declared.receipt.Receipt.{Receipt}

@@ -1,11 +1,10 @@
 -- The text of a store, from its front, its first position and its end.
-use Rattle.std.proofs.Common.{◌≡◌, ℕ, List, [], ◌∷◌, ◌++◌, map, decimal, refl, sym, ap, ◌∙◌, append_assoc}
+use Rattle.std.proofs.Common.{◌≡◌, ℕ, List, [], ◌∷◌, ◌++◌, map, decimal, sym, ap, ◌∙◌, append_assoc}
 use Rattle.std.specs.Prelude.{pos}
 use Rattle.mx_json.specs.Texts.{json_text}
 use Rattle.mx_json.specs.declared.value.Json.{Json}
 use Rattle.mx_json.specs.declared.value.Json.TheVariants as json
 use Rattle.mx_json.proofs.Texts.{text-Int, text-List}
-use Rattle.mx_records.specs.Records.{Line, line_json}
 use Rattle.mx_records.specs.Texts.{FrontsBegin}
 use Rattle.mx_records.specs.Values.{nat_json}
 

@@ -1,5 +1,5 @@
 -- What is read of a line is what was written of a store.
-use Rattle.std.specs.Prelude.{◌≡◌, ℕ, List, map, Some}
+use Rattle.std.specs.Prelude.{◌≡◌, map, Some}
 use Rattle.mx_account.specs.declared.entry.Entry.{Entry}
 use Rattle.mx_account.specs.declared.entry.Entry.TheVariants as entry
 use Rattle.mx_event.specs.declared.draft.Draft.{Draft}

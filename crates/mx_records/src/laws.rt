@@ -2,7 +2,7 @@
 ghost use Rattle.mx_records.specs.Laws.{EntriesReadBack, EventsReadBack, ReceiptsReadBack};
 ghost use Rattle.mx_records.specs.Texts.{FrontsBegin};
 
-use crate::texts::Recorded;
+use crate::recorded::Recorded;
 
 /// What is read of the value of a store of events is the store, with each event as the draft that it was made of.
 pub fn events_read_back()

@@ -2,51 +2,23 @@
 
 ghost use Rattle.std.specs.Prelude.{◌≡◌, [], ◌∷◌, ◌++◌, map, IfOk, OnOk};
 ghost use Rattle.mx_json.specs.declared.value.Json as json;
-ghost use Rattle.mx_records.specs.Records.{entry_json, event_json, receipt_json};
-ghost use Rattle.mx_records.specs.Texts.{front_text, head_text};
+ghost use Rattle.mx_records.specs.Texts.{front_text, head_text, stream_text};
 
-use crate::entries::entry_value;
-use crate::events::event_value;
 use crate::fault::RecordFault;
-use crate::receipts::receipt_value;
-use mx_account::Entry;
-use mx_event::Event;
+use crate::recorded::Recorded;
 use mx_ids::{Memory, Seq, Text};
 use mx_json::Json;
-use mx_receipt::Receipt;
+use mx_wait::StreamName;
 use std::alloc::Global;
 
-/// An item of a stream that a journal keeps.
-pub trait Recorded: Sized {
-    // Its value, without its position.
-    ghost value: { Self → json.Json };
-
-    /// The value.
-    fn to_value(&self, alloc: Global) -> Result<Json, RecordFault>
-        ensures value { IfOk result (λ j. j ≡ value self.now) };
-}
-
-impl Recorded for Event {
-    ghost value = { event_json };
-
-    fn to_value(&self, alloc: Global) -> Result<Json, RecordFault> {
-        event_value(alloc, self)
-    }
-}
-
-impl Recorded for Receipt {
-    ghost value = { receipt_json };
-
-    fn to_value(&self, alloc: Global) -> Result<Json, RecordFault> {
-        receipt_value(alloc, self)
-    }
-}
-
-impl Recorded for Entry {
-    ghost value = { entry_json };
-
-    fn to_value(&self, alloc: Global) -> Result<Json, RecordFault> {
-        entry_value(alloc, self)
+/// What the text of each store of a stream begins with.
+pub fn stream_text(stream: StreamName) -> &'static str
+    ensures { result.now ≡ stream_text stream }
+{
+    match stream {
+        StreamName::Events => "events",
+        StreamName::Receipts => "receipts",
+        StreamName::Accounts => "accounts",
     }
 }
 

@@ -1,13 +1,12 @@
 -- A write after which one store more was seen.
-use Rattle.std.proofs.Common.{◌≡◌, Bool, true, false, nat_eq, if◌then◌else◌, ℕ, ◌+◌, ◌<◌, ◌≤◌, List, [], ◌∷◌, ◌++◌, length, Result, Ok, Err, refl, sym, ap, ◌∙◌, subst, arith, length-append, append_assoc}
+use Rattle.std.proofs.Common.{◌≡◌, Bool, true, false, nat_eq, if◌then◌else◌, ℕ, ◌+◌, ◌<◌, List, [], ◌∷◌, ◌++◌, length, Ok, refl, sym, ap, ◌∙◌, subst, arith, length-append, append_assoc}
 use Rattle.std.proofs.lemmas.List.{append_cancel_left, append-nil}
 use Rattle.mx_core.specs.declared.history.Stored.{Stored}
 use Rattle.mx_core.specs.History.{own, Begins}
 use Rattle.mx_core.proofs.Owns.{own-append}
 use Rattle.mx_front.specs.declared.view.View.{View}
 use Rattle.mx_writers.specs.declared.answers.Written.{Written}
-use Rattle.mx_writers.specs.declared.answers.Refused.{Refused}
-use Rattle.mx_writers.specs.Decision.{Decision, Placing, Stores, Keeps, Refuses, store_of, with_store}
+use Rattle.mx_writers.specs.Decision.{Decision, Placing, Stores, Keeps, Refuses, store_of}
 use Rattle.mx_writers.specs.Writes.{WritesBy, WritesSeen}
 use Rattle.mx_replay.specs.Replays.{HasReplayed}
 

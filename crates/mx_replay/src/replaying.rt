@@ -1,7 +1,8 @@
 //! One store that is made again.
 
-ghost use Rattle.std.specs.Prelude.{◌≡◌, ◌+◌, ◌<◌, OnOk};
-ghost use Rattle.mx_front.specs.Shown.{place_of, place_of_pass, seen_by, writers_of};
+ghost use Rattle.std.specs.Prelude.{◌≡◌, ◌+◌, ◌<◌, ◌≤◌, OnOk};
+ghost use Rattle.mx_core.specs.History.{Begins};
+ghost use Rattle.mx_front.specs.Shown.{place_of, place_of_pass, reads, seen_by, writers_of};
 ghost use Rattle.mx_writers.specs.Shown.{stream_of};
 ghost use Rattle.mx_replay.specs.Replays.{HasReplayed};
 
@@ -29,7 +30,8 @@ pub enum NotReplayed<E> {
 }
 
 /// Makes a store again: what a writer decides on a draft, at a position. At `Ok` it is the one store that the pass has seen
-/// besides those that it had seen, and these have all stores of its writer that it was decided by. Where others store at the
+/// besides those that it had seen, and these have all stores of its writer that it was decided by. What it had seen begins what it has
+/// then seen. Where others store at the
 /// same time it answers `Elsewhere`, so nobody else is to store meanwhile.
 pub fn replay<F: Folds, R: Wait>(
     rt: &R,
@@ -43,6 +45,8 @@ pub fn replay<F: Folds, R: Wait>(
     requires shard { shard < writers_of (stream_of writers.now) }
     requires stream { place_of_pass pass.old ≡ place_of (stream_of writers.now) }
     ensures stream { place_of_pass pass.new ≡ place_of_pass pass.old }
+    ensures begins { Begins (seen_by pass.old) (seen_by pass.new) }
+    ensures read { (reads pass.old).read ≤ (reads pass.new).read }
     ensures replayed { OnOk result (HasReplayed F.Item.placed F.decides shard first draft (seen_by pass.old) (seen_by pass.new)) }
 {
     let before = pass.stores();
