@@ -1,9 +1,9 @@
 ghost use Rattle.std.specs.Prelude.{◌≡◌, option_map};
 ghost use Rattle.mx_account.specs.Entries.{are_placed, pair_now, pair_of, placed_at};
 
-use mx_core::Placed;
 use mx_ids::{Copied, Memory, RoomId, Text, UserId};
 use mx_json::Json;
+use mx_lanes::Placed;
 use std::alloc::Global;
 
 /// An item of the stream of account data.

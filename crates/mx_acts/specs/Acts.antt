@@ -7,7 +7,7 @@ use Rattle.mx_receipt.specs.declared.receipt.ReceiptKind.{ReceiptKind}
 use Rattle.mx_entries.specs.declared.drafts.RuleChange.TheVariants as change
 use Rattle.mx_aims.specs.Asked.{Aimed, Site, create_aimed, invite_aimed, join_aimed, member_aimed, redact_aimed, room_of, send_aimed, state_aimed, unban_aimed, writer_for}
 use Rattle.mx_aims.specs.Stored.{EntryAimed, NoteAimed, ReceiptAimed, account_aimed, marker_aimed, note_aimed, receipt_aimed, receipts_aimed, rules_aimed, tag_aimed, untag_aimed}
-use Rattle.mx_room_reads.specs.Reads.{joined_rooms_said, one_event_said, room_members_said, room_state_said, state_content_said}
+use Rattle.mx_user_reads.specs.RoomReads.Reads.{joined_rooms_said, one_event_said, room_members_said, room_state_said, state_content_said}
 use Rattle.mx_user_reads.specs.Filters.{stored_filter}
 use Rattle.mx_user_reads.specs.Rules.{push_rule, push_rules, rule_actions, rule_enabled}
 use Rattle.mx_user_reads.specs.Values.{account_value, room_tags}

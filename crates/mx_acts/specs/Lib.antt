@@ -1,2 +1,4 @@
 pub mod Acts
 pub mod Reads
+pub mod UserReads
+pub mod RoomReads

@@ -14,8 +14,8 @@ use Rattle.mx_pager.specs.Pages.{page_of, sees}
 use Rattle.mx_pager.specs.declared.asked.Bound.{Bound}
 use Rattle.mx_pager.specs.declared.asked.PageAsk.{PageAsk}
 use Rattle.mx_snapshot.specs.declared.snapshot.Snapshot.{Snapshot}
-use Rattle.mx_sync.specs.Asks.{ahead_of, held}
-use Rattle.mx_sync.specs.Replies.{reply_of}
+use Rattle.mx_ask.specs.Sync.Asks.{ahead_of, held}
+use Rattle.mx_ask.specs.Sync.Replies.{reply_of}
 use Rattle.mx_aims.specs.Stored.{there}
 use Rattle.mx_user_reads.specs.Filters.{filter_for}
 

@@ -13,12 +13,12 @@ use crate::pages::page_said;
 use crate::room_reads::{account, event, members, state, tags, value};
 use crate::syncs::sync_said;
 use mx_aims::Site;
-use mx_ask::{Ask, Said, Who};
+use mx_ask::{Ask, Known, Said, Who};
 use mx_ids::{Copied, Memory, Text};
-use mx_room_reads::joined_rooms;
 use mx_snapshot::Snapshot;
-use mx_sync::Known;
-use mx_user_reads::{push_rule, push_rules, rule_actions, rule_enabled, stored_filter};
+use mx_user_reads::{
+    joined_rooms, push_rule, push_rules, rule_actions, rule_enabled, stored_filter,
+};
 use std::alloc::Global;
 
 /// What a request that reads is told, on what is known of the streams.

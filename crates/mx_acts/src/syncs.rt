@@ -6,10 +6,9 @@ ghost use Rattle.mx_acts.specs.Reads as told;
 ghost use Rattle.mx_rest.specs.Servers.{AreValid, lists_of};
 ghost use Rattle.mx_user_reads.specs.Filters.{filter_named};
 
-use mx_ask::{FilterAsk, Refusal, Said};
+use mx_ask::{FilterAsk, Known, Refusal, Said, SyncAsk, SyncFault};
 use mx_filter::Filter;
 use mx_ids::{Memory, SyncToken, Text, UserId};
-use mx_sync::{Known, SyncAsk, SyncFault};
 use mx_user_reads::filter_named;
 use std::alloc::Global;
 

@@ -12,7 +12,7 @@ use Rattle.mx_pager.specs.declared.asked.Bound.{Bound}
 use Rattle.mx_pager.specs.declared.asked.Bound.TheVariants as bound
 use Rattle.mx_sync.specs.Asks as sync
 use Rattle.mx_view.specs.Tokens.{is_before}
-use Rattle.mx_acts.specs.Reads.{snapshot_of}
+use Rattle.mx_engine.specs.Acts.Reads.{snapshot_of}
 
 not_ahead : (f t : ℕ) → nat_le t f ≡ not (nat_lt f t)
 not_ahead f t = elim (cases_Bool (nat_lt f t)) [

@@ -41,9 +41,9 @@ use Rattle.mx_ask.specs.declared.ask.Ask.TheVariants as ask
 use Rattle.mx_ask.specs.declared.ask.Request.{Request}
 use Rattle.mx_ask.specs.declared.ask.Who.{Who}
 use Rattle.mx_ask.specs.declared.said.Said.TheVariants as said
-use Rattle.mx_acts.specs.Acts.{asked}
+use Rattle.mx_engine.specs.Acts.Acts.{asked}
 use Rattle.mx_engine.specs.Answers.{Stops, act_said, answer_to as answered, counts}
-use Rattle.mx_aims.specs.Asked.{Site, room_of}
+use Rattle.mx_engine.specs.Aims.Asked.{Site, room_of}
 use Rattle.mx_engine.specs.Exchanges.{AreExchanges, first_of}
 use Rattle.mx_engine.specs.declared.answered.Answered.{Answered}
 use Rattle.mx_engine.specs.declared.answered.Counts.{Counts}

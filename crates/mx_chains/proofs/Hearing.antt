@@ -25,20 +25,20 @@ use Rattle.mx_pager.specs.declared.asked.PageAsk.{PageAsk}
 use Rattle.mx_pager.specs.declared.sent.Page as pager
 use Rattle.mx_rest.specs.declared.room_view.RoomDelta.{RoomDelta}
 use Rattle.mx_rest.specs.declared.room_view.RoomView.{RoomView}
-use Rattle.mx_room_reads.specs.Places.{has_room}
+use Rattle.mx_engine.specs.RoomReads.Places.{has_room}
 use Rattle.mx_sync.specs.Asks as sync
 use Rattle.mx_sync.specs.Reads.{IsReply, left_sent}
 use Rattle.mx_sync.specs.Replies.{reply_of, server_for}
 use Rattle.mx_sync.specs.declared.sync_reply.Reply.{Reply}
 use Rattle.mx_sync.proofs.Told.{replies_are}
 use Rattle.mx_window.specs.Windows.{stand_from}
-use Rattle.mx_user_reads.specs.Filters.{filter_for}
+use Rattle.mx_engine.specs.UserReads.Filters.{filter_for}
 use Rattle.mx_ask.specs.declared.refusal.Refusal.TheVariants as refusal
 use Rattle.mx_ask.specs.declared.ask.FilterAsk.{FilterAsk}
 use Rattle.mx_ask.specs.declared.said.Said.{Said}
 use Rattle.mx_ask.specs.declared.said.Said.TheVariants as said
-use Rattle.mx_acts.specs.Reads.{of_room, page_ask, page_said, page_told, snapshot_of, sync_ask, sync_by, sync_said, unless_ahead}
-use Rattle.mx_aims.specs.Stored.{there}
+use Rattle.mx_engine.specs.Acts.Reads.{of_room, page_ask, page_said, page_told, snapshot_of, sync_ask, sync_by, sync_said, unless_ahead}
+use Rattle.mx_engine.specs.Aims.Stored.{there}
 use Rattle.mx_chains.specs.Heard.{heard, heard_page, no_part, page_asked, page_back, page_from_bound, page_to, replied, sync_asked}
 use Rattle.mx_chains.proofs.Behind.{page_behind, sync_behind, to_bound}
 

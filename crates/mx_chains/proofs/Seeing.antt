@@ -29,7 +29,7 @@ use Rattle.mx_pager.specs.declared.asked.Bound.{Bound}
 use Rattle.mx_pager.specs.declared.asked.PageAsk.{PageAsk}
 use Rattle.mx_pager.specs.declared.sent.Page.{Page}
 use Rattle.mx_pager.proofs.Turned.{reverse_each}
-use Rattle.mx_room_reads.specs.Places.{has_room}
+use Rattle.mx_engine.specs.RoomReads.Places.{has_room}
 use Rattle.mx_ask.specs.declared.ask.Ask as what
 use Rattle.mx_ask.specs.declared.ask.Ask.TheVariants as ask
 use Rattle.mx_ask.specs.declared.ask.Request.{Request}
@@ -37,9 +37,9 @@ use Rattle.mx_ask.specs.declared.ask.Who.{Who}
 use Rattle.mx_ask.specs.declared.refusal.Refusal.TheVariants as refusal
 use Rattle.mx_ask.specs.declared.said.Said.{Said}
 use Rattle.mx_ask.specs.declared.said.Said.TheVariants as said
-use Rattle.mx_acts.specs.Acts.{asked}
-use Rattle.mx_acts.specs.Reads.{of_room, page_ask, page_said, page_told, snapshot_of, unless_ahead}
-use Rattle.mx_aims.specs.Asked.{Site, room_of}
+use Rattle.mx_engine.specs.Acts.Acts.{asked}
+use Rattle.mx_engine.specs.Acts.Reads.{of_room, page_ask, page_said, page_told, snapshot_of, unless_ahead}
+use Rattle.mx_engine.specs.Aims.Asked.{Site, room_of}
 use Rattle.mx_engine.specs.Answers.{act_said, answer_to as answered, counts}
 use Rattle.mx_engine.specs.Exchanges.{first_of}
 use Rattle.mx_engine.specs.declared.answered.Answered.{Answered}

@@ -12,7 +12,7 @@ use Rattle.mx_refold.specs.Clients.{redacted_client}
 use Rattle.mx_sync.specs.Replies.{server_for}
 use Rattle.mx_ask.specs.declared.ask.Request.{Request}
 use Rattle.mx_engine.specs.Answers.{Stops, answer_to, counts}
-use Rattle.mx_aims.specs.Asked.{Site}
+use Rattle.mx_engine.specs.Aims.Asked.{Site}
 use Rattle.mx_engine.specs.Exchanges.{AreExchanges, first_of}
 use Rattle.mx_engine.specs.declared.answered.Answered.{Answered}
 use Rattle.mx_engine.specs.declared.answered.Counts.{Counts}

@@ -18,7 +18,7 @@ use Rattle.mx_rest.specs.declared.room_view.RoomDelta.{RoomDelta}
 use Rattle.mx_rest.specs.declared.room_view.RoomView.{RoomView}
 use Rattle.mx_sync.specs.Reads.{left_sent, told_in}
 use Rattle.mx_sync.specs.declared.sync_reply.Reply.{Reply}
-use Rattle.mx_user_reads.specs.Filters.{filter_for}
+use Rattle.mx_engine.specs.UserReads.Filters.{filter_for}
 use Rattle.mx_ask.specs.declared.ask.Ask.{Ask}
 use Rattle.mx_ask.specs.declared.ask.Ask.TheVariants as ask
 use Rattle.mx_ask.specs.declared.ask.Request.{Request}
@@ -26,9 +26,9 @@ use Rattle.mx_ask.specs.declared.ask.Who.{Who}
 use Rattle.mx_ask.specs.declared.said.Said.{Said}
 use Rattle.mx_ask.specs.declared.said.Said.TheVariants as said
 use Rattle.mx_engine.specs.Answers.{counts}
-use Rattle.mx_aims.specs.Asked.{Site, room_of}
+use Rattle.mx_engine.specs.Aims.Asked.{Site, room_of}
 use Rattle.mx_engine.specs.Exchanges.{first_of}
-use Rattle.mx_acts.specs.Reads.{sync_ask}
+use Rattle.mx_engine.specs.Acts.Reads.{sync_ask}
 use Rattle.mx_engine.specs.declared.answered.Answered.{Answered}
 
 -- ---- what is asked

@@ -11,7 +11,7 @@ use Rattle.mx_ask.specs.declared.ask.Request.{Request}
 use Rattle.mx_ask.specs.declared.ask.Who.{Who}
 use Rattle.mx_ask.specs.declared.said.Said.{Said}
 use Rattle.mx_ask.specs.declared.said.Said.TheVariants as said
-use Rattle.mx_aims.specs.Asked.{Site, room_of}
+use Rattle.mx_engine.specs.Aims.Asked.{Site, room_of}
 use Rattle.mx_engine.specs.Answers.{counts}
 use Rattle.mx_engine.specs.Exchanges.{first_of}
 use Rattle.mx_engine.specs.declared.answered.Answered.{Answered}

@@ -12,7 +12,7 @@ use mx_event::Event;
 use mx_front::Stream;
 use mx_ids::Memory;
 use mx_receipt::Receipt;
-use mx_sync::Known;
+use mx_still::Known;
 use std::alloc::Global;
 use std::sync::Wait;
 

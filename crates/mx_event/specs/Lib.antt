@@ -10,3 +10,5 @@ pub mod Laws
 pub mod Lawful
 pub mod Valid
 pub mod Drafts
+pub mod Json
+pub mod Core

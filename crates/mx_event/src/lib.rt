@@ -27,5 +27,6 @@ pub use draft::Draft;
 pub use event::{Event, Shown, Txn};
 pub use forms::client_form;
 pub use laws::{lawful_is_valid, names_stay, redacts_once, rooms_are_valid, shown_stays};
+pub use mx_core::crosses_threads;
 pub use redaction::redact;
 pub use size::fits;

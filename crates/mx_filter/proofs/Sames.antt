@@ -3,7 +3,7 @@ use Rattle.std.proofs.Common.{◌≡◌, refl, ℕ, Bool, true, false, ◌&&◌,
 use Rattle.std.proofs.lemmas.Bool.{and_parts}
 use Rattle.std.proofs.lemmas.Slice.Eq.{bytes_eq-Decides}
 use Rattle.std.specs.Str.{bytes_eq}
-use Rattle.mx_event.specs.declared.event.Event.{Event}
+use Rattle.mx_view.specs.OfEvent.Event.{Event}
 use Rattle.mx_ids.specs.declared.room_id.RoomId.{RoomId}
 use Rattle.mx_view.specs.Rooms.{PicksByType}
 use Rattle.mx_filter.specs.Passes.{event_passes, room_passes, selects, type_passes, url_passes}

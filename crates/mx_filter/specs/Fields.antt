@@ -2,7 +2,7 @@
 use Rattle.std.specs.Prelude.{ℕ, ℤ, pos, negsuc, Bool, true, false, ◌||◌, List, [], ◌∷◌, ◌++◌, Option, Some, None, is_some, option_and_then, if◌then◌else◌, codes}
 use Rattle.std.specs.List.{list_all}
 use Rattle.std.specs.Option.{option_or, option_map_or}
-use Rattle.mx_event.specs.Kinds.{is_text}
+use Rattle.mx_view.specs.OfEvent.Kinds.{is_text}
 use Rattle.mx_json.specs.Fields.{field, bool_of, int_of, is_object, list_of, text_of}
 use Rattle.mx_json.specs.declared.value.Json.{Json}
 use Rattle.mx_filter.specs.declared.field.Field.{Field}

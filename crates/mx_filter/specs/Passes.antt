@@ -2,7 +2,7 @@
 use Rattle.std.specs.Prelude.{ℕ, Bool, true, ◌&&◌, not, if◌then◌else◌, List, Option, Some, None}
 use Rattle.std.specs.List.{list_any}
 use Rattle.std.specs.Str.{bytes_eq}
-use Rattle.mx_event.specs.declared.event.Event.{Event}
+use Rattle.mx_view.specs.OfEvent.Event.{Event}
 use Rattle.mx_glob.specs.Globs.{glob}
 use Rattle.mx_glob.specs.declared.wildcards.Same.TheVariants as same
 use Rattle.mx_ids.specs.Ids.{room_id_text}

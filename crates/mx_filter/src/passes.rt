@@ -7,9 +7,9 @@ ghost use Rattle.mx_ids.specs.declared.room_id.RoomId.{RoomId};
 ghost use Rattle.mx_filter.specs.Passes.{event_passes, names_type, part_of, passes, passes_type, picks, selects, type_passes, types_of, url_passes};
 
 use crate::parts::{DataPart, EventFilter, Filter, Part, Selection, TypeFilter};
-use mx_event::Event;
 use mx_glob::{Same, glob};
 use mx_ids::{Seq, Text};
+use mx_view::Event;
 
 impl Filter {
     /// Whether the filter picks a room, by the text of its id. Takes no memory.

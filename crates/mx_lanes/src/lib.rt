@@ -26,5 +26,6 @@ pub use laws::{
     book_stands_for_one_history, book_stands_still, book_stands_with_one_store_more,
     books_cross_threads, parts_are_covered,
 };
+pub use mx_core::Placed;
 pub use parts::Parts;
 pub use shared::Shared;

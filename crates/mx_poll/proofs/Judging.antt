@@ -9,14 +9,14 @@ use Rattle.mx_ask.specs.declared.ask.FilterAsk.{FilterAsk}
 use Rattle.mx_ask.specs.declared.ask.Who.{Who}
 use Rattle.mx_ask.specs.declared.said.Said.{Said}
 use Rattle.mx_ask.specs.declared.said.Said.TheVariants as said
-use Rattle.mx_acts.specs.Acts.{Reads}
-use Rattle.mx_acts.specs.Reads as told
+use Rattle.mx_engine.specs.Acts.Acts.{Reads}
+use Rattle.mx_engine.specs.Acts.Reads as told
 use Rattle.mx_engine.specs.Answers.{IsDone, Stops}
 use Rattle.mx_engine.specs.Shown.{HasLooked, Ties, known_of, made_of, stops_of, stores_of}
 use Rattle.mx_engine.specs.declared.answered.Answered.{Answered}
 use Rattle.mx_engine.specs.declared.held.Engine.{Engine}
 use Rattle.mx_engine.specs.declared.held.EnginePass.{EnginePass}
-use Rattle.mx_still.specs.Concerns.{is_still}
+use Rattle.mx_engine.specs.Still.Concerns.{is_still}
 use Rattle.mx_wait.specs.Parked.{AreWhole}
 use Rattle.mx_wait.specs.declared.parking.Tickets.{Tickets}
 use Rattle.mx_poll.specs.Polls.{HasLookedOn, IsBegunBy, IsJudged, IsPolled, IsPolledBy, said_of}

@@ -4,7 +4,7 @@ use Rattle.mx_core.proofs.Histories.{begins_self, begins_trans}
 use Rattle.mx_ask.specs.declared.said.Said.{Said}
 use Rattle.mx_fold.specs.Lists.{Grows, Histories, Lists}
 use Rattle.mx_writers.specs.declared.gate.Gate.{Ghosts}
-use Rattle.mx_acts.specs.Acts.{Act, Reads}
+use Rattle.mx_engine.specs.Acts.Acts.{Act, Reads}
 use Rattle.mx_engine.specs.Answers.{IsDone, Stops}
 use Rattle.mx_engine.specs.Shown.{HasLooked, IsDoneBy, KeepsAll, LooksOn, Ties, made_of, stops_of, stores_of}
 use Rattle.mx_engine.specs.declared.answered.Answered.{Answered}

@@ -5,3 +5,4 @@ mod Readings
 mod Standing
 mod Staying
 pub mod Waited
+pub mod OfEngine

@@ -22,10 +22,10 @@ use Rattle.mx_sync.specs.Replies.{reply_of}
 use Rattle.mx_ask.specs.declared.ask.FilterAsk.{FilterAsk}
 use Rattle.mx_ask.specs.declared.ask.FilterAsk.TheVariants as asks
 use Rattle.mx_ask.specs.declared.said.Said.TheVariants as said
-use Rattle.mx_acts.specs.Reads.{sync_ask, sync_by, sync_said, sync_told, unless_ahead}
-use Rattle.mx_user_reads.specs.Filters.{filter_for, filter_in, filter_named, filter_read, first_filter, number_of}
-use Rattle.mx_still.specs.Concerns.{is_still}
-use Rattle.mx_still.proofs.Emptying.{stays_empty}
+use Rattle.mx_engine.specs.Acts.Reads.{sync_ask, sync_by, sync_said, sync_told, unless_ahead}
+use Rattle.mx_engine.specs.UserReads.Filters.{filter_for, filter_in, filter_named, filter_read, first_filter, number_of}
+use Rattle.mx_engine.specs.Still.Concerns.{is_still}
+use Rattle.mx_engine.proofs.Still.Emptying.{stays_empty}
 use Rattle.mx_poll.specs.Polls.{IsPolled, said_of}
 use Rattle.mx_poll.specs.Waits.{tells_nothing}
 use Rattle.mx_poll.specs.declared.states.SyncPoll.{SyncPoll}

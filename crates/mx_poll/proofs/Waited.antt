@@ -6,8 +6,8 @@ use Rattle.mx_writers.specs.declared.gate.Gate.{Ghosts}
 use Rattle.mx_ask.specs.declared.ask.Ask.{Ask}
 use Rattle.mx_ask.specs.declared.ask.Ask.TheVariants as ask
 use Rattle.mx_ask.specs.declared.ask.Who.{Who}
-use Rattle.mx_acts.specs.Acts.{Reads, asked}
-use Rattle.mx_acts.specs.Reads as told
+use Rattle.mx_engine.specs.Acts.Acts.{Reads, asked}
+use Rattle.mx_engine.specs.Acts.Reads as told
 use Rattle.mx_engine.specs.Answers.{IsAnswered, IsDone, made_for}
 use Rattle.mx_engine.specs.Shown.{LooksFor, made_of, site_of, stops_of, stores_of}
 use Rattle.mx_engine.specs.declared.answered.Answered.{Answered}

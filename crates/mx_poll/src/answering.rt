@@ -2,7 +2,7 @@
 
 ghost use Rattle.std.specs.Prelude.{◌≡◌, ℕ, ◌≤◌};
 ghost use Rattle.mx_ask.specs.Asks.{IsAsk};
-ghost use Rattle.mx_acts.specs.Acts.{Reads, asked};
+ghost use Rattle.mx_engine.specs.Acts.Acts.{Reads, asked};
 ghost use Rattle.mx_engine.specs.Answers.{IsAnswered, made_for};
 ghost use Rattle.mx_engine.specs.Shown.{LooksFor, Ties, made_of, site_of, stops_of, stores_of};
 ghost use Rattle.mx_fold.specs.Lists.{lists_of};

@@ -25,5 +25,6 @@ mod telling;
 
 pub use answering::answer;
 pub use beginning::begin;
+pub use mx_engine::{Answered, Engine, EnginePass, Mark, Setup, engine};
 pub use polling::{look_after, poll};
 pub use states::{Begun, Parked, Polled, Seen, SyncPoll};

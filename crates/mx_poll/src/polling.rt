@@ -6,7 +6,7 @@ ghost use Rattle.mx_fold.specs.Lists.{Grows, fronts_of, lists_of};
 ghost use Rattle.mx_poll.specs.Polls.{IsJudged, IsPolled, IsPolledBy};
 ghost use Rattle.mx_poll.specs.Waits.{tells_nothing};
 ghost use Rattle.mx_rest.specs.Servers.{AreValid};
-ghost use Rattle.mx_still.specs.Concerns.{is_still};
+ghost use Rattle.mx_engine.specs.Still.Concerns.{is_still};
 
 use crate::states::{Parked, Polled, Seen, SyncPoll};
 use crate::telling::tells_nothing;

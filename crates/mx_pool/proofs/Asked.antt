@@ -1,7 +1,7 @@
 -- A run by what its words ask, in each case of their reading.
 use Rattle.std.specs.Io.KnownBytes.{Keeps}
 use Rattle.std.proofs.Common.{◌≡◌, ◌⊎◌, ℕ, List, Option, Some, None, [], inl, inr, sym, subst, ◌∙◌}
-use Rattle.mx_engine.specs.declared.held.EnginePass.{EnginePass}
+use Rattle.mx_serve.specs.OfEngine.EnginePass.{EnginePass}
 use Rattle.mx_serve.specs.declared.ended.Ended.{Ended}
 use Rattle.mx_ids.specs.Memory.{refused_memory}
 use Rattle.mx_pool.specs.declared.status.Status.{Status}

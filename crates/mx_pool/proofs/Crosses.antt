@@ -11,7 +11,7 @@ use Rattle.std.specs.declared.sync.ledger.Ledger.{Ghosts as LedgerGhosts}
 use Rattle.mx_outside.specs.declared.sink.Sink.{Ghosts as SinkGhosts}
 use Rattle.mx_outside.specs.declared.source.Source.{Ghosts as SourceGhosts}
 use Rattle.mx_writers.specs.declared.gate.Gate.{Ghosts as GateGhosts}
-use Rattle.mx_engine.proofs.Crosses.{pass_send}
+use Rattle.mx_serve.proofs.OfEngine.Crosses.{pass_send}
 use Rattle.mx_serve.proofs.Crosses.{server_send, server_sync}
 use Rattle.mx_pool.specs.contracts.connection.Connection as Connection
 use Rattle.mx_pool.specs.contracts.pool.Free as Free

@@ -1,8 +1,8 @@
 -- What a server has served in the end.
 use Rattle.std.proofs.Common.{◌≡◌, ℕ, ◌≤◌, List, [], Option, refl, sym, subst, arith, map}
 use Rattle.std.proofs.Math.Logic.{∥∥₁_map}
-use Rattle.mx_engine.specs.Shown.{stores_of}
-use Rattle.mx_engine.specs.declared.held.EnginePass.{EnginePass}
+use Rattle.mx_serve.specs.OfEngine.Shown.{stores_of}
+use Rattle.mx_serve.specs.OfEngine.EnginePass.{EnginePass}
 use Rattle.mx_fold.specs.Lists.{Histories}
 use Rattle.mx_serve.proofs.Rooms.{all_lawful}
 use Rattle.mx_serve.proofs.Together.{sessions_agree}

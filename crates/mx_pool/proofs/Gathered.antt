@@ -3,9 +3,9 @@ use Rattle.std.proofs.Common.{◌≡◌, ℕ, ◌+◌, List, [], ◌∷◌, ◌+
 use Rattle.std.specs.List.{AllByRecursion}
 use Rattle.std.proofs.Math.Logic.{∥∥₁_elim, ∥∥₁_map, ∥∥₁_prop}
 use Rattle.std.proofs.Props.{props}
-use Rattle.mx_engine.specs.Shown.{Ties}
-use Rattle.mx_engine.specs.declared.held.EnginePass.{EnginePass}
-use Rattle.mx_engine.proofs.Known.{grows_twice}
+use Rattle.mx_serve.specs.OfEngine.Shown.{Ties}
+use Rattle.mx_serve.specs.OfEngine.EnginePass.{EnginePass}
+use Rattle.mx_serve.proofs.OfEngine.Known.{grows_twice}
 use Rattle.mx_fold.specs.Lists.{Grows, Histories}
 use Rattle.mx_serve.specs.Together.{IsBegun}
 use Rattle.mx_serve.specs.declared.server.Server.{Server}

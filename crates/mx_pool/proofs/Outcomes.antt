@@ -4,7 +4,7 @@ use Rattle.std.proofs.Common.{◌≡◌, ℕ, zero, suc, ◌≤◌, ◌⊎◌, i
 use Rattle.std.proofs.KnownBytes.{Appends-trans}
 use Rattle.mx_outside.specs.Causes.{Rose}
 use Rattle.mx_outside.specs.Moves.{IsLonger}
-use Rattle.mx_engine.specs.declared.held.EnginePass.{EnginePass}
+use Rattle.mx_serve.specs.OfEngine.EnginePass.{EnginePass}
 use Rattle.mx_ids.specs.Memory.{refused_memory}
 use Rattle.mx_ids.specs.declared.users.Users.{Users}
 use Rattle.mx_users.specs.UsersFile.{users_in}

@@ -4,11 +4,11 @@ use Rattle.std.proofs.Math.Logic.{∥∥₁_map}
 use Rattle.mx_http.specs.declared.call.Call.{Call}
 use Rattle.mx_ids.specs.declared.users.Users.{Users}
 use Rattle.mx_fold.specs.Lists.{AreLawful, Histories}
-use Rattle.mx_engine.specs.Answers.{Stops, counts_of, nothing}
-use Rattle.mx_aims.specs.Asked.{Site}
-use Rattle.mx_engine.specs.Shown.{Looks, none_made, stores_of}
-use Rattle.mx_engine.specs.Written.{Made}
-use Rattle.mx_engine.specs.declared.held.EnginePass.{EnginePass}
+use Rattle.mx_serve.specs.OfEngine.Answers.{Stops, counts_of, nothing}
+use Rattle.mx_serve.specs.Aims.Asked.{Site}
+use Rattle.mx_serve.specs.OfEngine.Shown.{Looks, none_made, stores_of}
+use Rattle.mx_serve.specs.OfEngine.Written.{Made}
+use Rattle.mx_serve.specs.OfEngine.EnginePass.{EnginePass}
 use Rattle.mx_serve.specs.Tallies.{tally}
 use Rattle.mx_serve.specs.Rooms.{AreValid}
 use Rattle.mx_pool.specs.Connections.{Change, Clocked, Ends, Service, change}

@@ -2,12 +2,12 @@
 use Rattle.std.specs.Prelude.{◌≡◌, ℕ, ◌+◌, List, [], Option, length}
 use Rattle.std.specs.List.{AllByRecursion}
 use Rattle.atomic_table.specs.Seated.{TableId}
-use Rattle.mx_aims.specs.Asked.{Site}
-use Rattle.mx_engine.specs.Answers.{Stops, counts_of, stops_at}
-use Rattle.mx_engine.specs.Shown.{IsKnown, known_of, site_of, stops_of, stores_of}
-use Rattle.mx_engine.specs.declared.answered.Mark.{Mark}
-use Rattle.mx_engine.specs.declared.held.Engine.{Engine}
-use Rattle.mx_engine.specs.declared.held.EnginePass.{EnginePass}
+use Rattle.mx_serve.specs.Aims.Asked.{Site}
+use Rattle.mx_serve.specs.OfEngine.Answers.{Stops, counts_of, stops_at}
+use Rattle.mx_serve.specs.OfEngine.Shown.{IsKnown, known_of, site_of, stops_of, stores_of}
+use Rattle.mx_serve.specs.OfEngine.Mark.{Mark}
+use Rattle.mx_serve.specs.OfEngine.Engine.{Engine}
+use Rattle.mx_serve.specs.OfEngine.EnginePass.{EnginePass}
 use Rattle.mx_fold.specs.Lists.{Grows, Histories}
 use Rattle.mx_front.specs.Shown.{place_of, place_of_pass}
 use Rattle.mx_http.specs.declared.call.Call.{Call}

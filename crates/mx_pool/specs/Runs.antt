@@ -7,10 +7,10 @@ use Rattle.mx_ids.specs.declared.users.Users.{Users}
 use Rattle.mx_http.specs.declared.call.Call.{Call}
 use Rattle.mx_users.specs.UsersFile.{users_in}
 use Rattle.mx_fold.specs.Lists.{Histories}
-use Rattle.mx_engine.specs.Answers.{Stops, nothing, stops_at}
-use Rattle.mx_aims.specs.Asked.{Site}
-use Rattle.mx_engine.specs.Shown.{Looks, none_made, stores_of}
-use Rattle.mx_engine.specs.declared.held.EnginePass.{EnginePass}
+use Rattle.mx_serve.specs.OfEngine.Answers.{Stops, nothing, stops_at}
+use Rattle.mx_serve.specs.Aims.Asked.{Site}
+use Rattle.mx_serve.specs.OfEngine.Shown.{Looks, none_made, stores_of}
+use Rattle.mx_serve.specs.OfEngine.EnginePass.{EnginePass}
 use Rattle.mx_serve.specs.declared.ended.End.{End}
 use Rattle.mx_serve.specs.declared.ended.End.TheVariants as end
 use Rattle.mx_serve.specs.declared.ended.Ended.{Ended}

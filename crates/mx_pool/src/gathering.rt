@@ -2,13 +2,12 @@
 ghost use Rattle.std.specs.Prelude.{◌≡◌, ◌≤◌, ◌+◌, OnOk, vec_len};
 ghost use Rattle.mx_pool.specs.Connections.{HaveServed, IsServerAt};
 ghost use Rattle.mx_fold.specs.Lists.{Grows};
-ghost use Rattle.mx_engine.specs.Shown.{Ties, stores_of};
+ghost use Rattle.mx_serve.specs.OfEngine.Shown.{Ties, stores_of};
 
 use crate::pool::Pool;
 use crate::seated::{Seated, Seating};
-use mx_engine::EnginePass;
 use mx_ids::Memory;
-use mx_serve::Server;
+use mx_serve::{EnginePass, Server};
 use mx_writers::Gate;
 use std::alloc::Global;
 use std::sync::ledger::Share;

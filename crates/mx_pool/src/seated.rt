@@ -2,12 +2,11 @@
 ghost use Rattle.std.specs.Prelude.{◌≡◌, ◌+◌};
 ghost use Rattle.std.proofs.Props.{props};
 ghost use Rattle.mx_pool.specs.Connections.{Ends, HaveServed, IsOwed, IsPassAt, IsServerAt, Places, Service, ends, no_places, no_service};
-ghost use Rattle.mx_engine.specs.Shown.{stores_of};
+ghost use Rattle.mx_serve.specs.OfEngine.Shown.{stores_of};
 ghost use Rattle.mx_pool.specs.Sets.{accounts_set, events_set, receipts_set};
 
-use mx_engine::EnginePass;
 use mx_outside::{Clock, Sink, Source};
-use mx_serve::{Server, serve_connection};
+use mx_serve::{EnginePass, Server, serve_connection};
 use mx_writers::Gate;
 use std::alloc::Global;
 use std::marker::Brand;

@@ -1,15 +1,14 @@
 //! A server for the users of a file.
 ghost use Rattle.std.specs.Prelude.{◌≡◌, ◌≤◌, IfOk};
-ghost use Rattle.mx_engine.specs.Shown.{Ties, made_of, none_made, site_of, stops_of, stores_of};
-ghost use Rattle.mx_engine.specs.Answers.{nothing};
+ghost use Rattle.mx_serve.specs.OfEngine.Shown.{Ties, made_of, none_made, site_of, stops_of, stores_of};
+ghost use Rattle.mx_serve.specs.OfEngine.Answers.{nothing};
 ghost use Rattle.mx_pool.specs.Connections.{change, clocked};
 ghost use Rattle.mx_pool.specs.Runs.{ServesUsers, run_stops, site_for};
 
 use crate::status::{Status, status_of};
-use mx_engine::{EnginePass, Setup, engine};
 use mx_ids::Memory;
 use mx_outside::{Clock, Sink, Source};
-use mx_serve::{Ended, Server, serve_connection};
+use mx_serve::{Ended, EnginePass, Server, Setup, engine, serve_connection};
 use mx_users::Directory;
 use mx_writers::Open;
 use std::alloc::Global;

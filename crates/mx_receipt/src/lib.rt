@@ -13,5 +13,6 @@
 mod reading;
 mod receipt;
 
+pub use mx_lanes::Parts;
 pub use reading::{furthest, standing};
 pub use receipt::{Receipt, ReceiptKind};

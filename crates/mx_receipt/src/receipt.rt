@@ -1,8 +1,8 @@
 ghost use Rattle.std.specs.Prelude.{◌≡◌};
 ghost use Rattle.mx_receipt.specs.Receipts.{are_placed, is_for, is_users, placed_at};
 
-use mx_core::Placed;
 use mx_ids::{Copied, EventId, Memory, RoomId, UserId};
+use mx_lanes::Placed;
 use std::alloc::Global;
 
 /// The kind of a receipt (Client-Server API, Receipts). `m.fully_read` is no kind: it is room account data.

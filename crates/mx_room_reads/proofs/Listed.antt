@@ -15,7 +15,7 @@ use Rattle.mx_event.specs.declared.event.Event.{Event}
 use Rattle.mx_folding.specs.Parts.{state_list}
 use Rattle.mx_folding.specs.Rooms.{is_state, sets_same}
 use Rattle.mx_view.specs.Rooms.{Sieve, room_of}
-use Rattle.mx_lazy.specs.Members.{members_at, plain}
+use Rattle.mx_parts.specs.Lazy.Members.{members_at, plain}
 use Rattle.mx_snapshot.specs.Looks.{at_position}
 use Rattle.mx_parts.proofs.Placed.{all_found}
 use Rattle.mx_fold.specs.Lists.{Lists, events_in}

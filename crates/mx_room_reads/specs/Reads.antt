@@ -22,7 +22,7 @@ use Rattle.mx_view.specs.Readings.{membership_of, viewer_of}
 use Rattle.mx_view.specs.Shows.{shown_for}
 use Rattle.mx_snapshot.specs.Events.{rooms_of}
 use Rattle.mx_snapshot.specs.Looks.{at_position}
-use Rattle.mx_lazy.specs.Members.{members_at, plain}
+use Rattle.mx_parts.specs.Lazy.Members.{members_at, plain}
 use Rattle.mx_fold.specs.Lists.{Lists, events_in}
 use Rattle.mx_room_reads.specs.Places.{front_of, has_room, place_of}
 

@@ -23,6 +23,8 @@ mod user_rooms;
 pub use contents::state_content;
 pub use lone_events::{one_event, seen_event};
 pub use member_lists::room_members;
+pub use mx_ask::{Refusal, Said, Who};
+pub use mx_rest::rules_at;
 pub use places::{has_room, is_joined};
 pub use room_states::room_state;
 pub use user_rooms::joined_rooms;

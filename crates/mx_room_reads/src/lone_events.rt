@@ -9,8 +9,8 @@ use crate::showing::shown;
 use mx_ask::{Refusal, Said};
 use mx_event::{Event, Shown};
 use mx_ids::{Memory, RoomId, Text, UserId, read_event_id};
+use mx_parts::visible;
 use mx_snapshot::Snapshot;
-use mx_visible::visible;
 use std::alloc::Global;
 
 /// The event of a room with an id, as it is shown to a user (Client-Server API, `GET /rooms/{roomId}/event/{eventId}`).

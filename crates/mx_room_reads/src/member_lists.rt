@@ -11,7 +11,7 @@ use crate::showing::all_shown;
 use mx_ask::{Refusal, Said};
 use mx_event::Event;
 use mx_ids::{Memory, RoomId, Text, UserId};
-use mx_lazy::members;
+use mx_parts::members;
 use mx_snapshot::Snapshot;
 use std::alloc::Global;
 
@@ -19,8 +19,8 @@ use std::alloc::Global;
 /// `GET /rooms/{roomId}/members`): of the state at the front where the user is joined, and where its latest stay ended if it
 /// left. Of them those that give `membership`, those that don't give `not_membership`, and with both of these those of either kind.
 ///
-/// `NotFound` where the room isn't there, `Forbidden` to a user that was never joined. Takes the time of some searches, and
-/// of one for each member event of the room.
+/// `NotFound` where the room isn't there, `Forbidden` to a user that was never joined. Takes the time of some searches and of
+/// `members` of `mx_lazy`.
 #[tactic(auto, unfolding(crate::specs::Reads::room_members_said))]
 pub fn room_members(
     alloc: Global,

@@ -11,8 +11,8 @@ ghost use Rattle.mx_view.specs.Readings as read;
 use mx_event::Event;
 use mx_event::event_types::MEMBER;
 use mx_ids::{Memory, RoomId, UserId};
+use mx_parts::{Membership, last_join, membership_of};
 use mx_snapshot::Snapshot;
-use mx_visible::{Membership, last_join, membership_of};
 use std::alloc::Global;
 
 /// Whether a room is there: an event is of it. Takes the time of a look-up, and no memory.

@@ -8,8 +8,8 @@ use crate::places::{has_room, place_of};
 use crate::showing::all_shown;
 use mx_ask::{Refusal, Said};
 use mx_ids::{Memory, RoomId, UserId};
+use mx_parts::state_at;
 use mx_snapshot::Snapshot;
-use mx_state::state_at;
 use std::alloc::Global;
 
 /// The events of a room's state, in order of position, as they are shown to a user (Client-Server API,

@@ -21,7 +21,7 @@ use Rattle.mx_api_user.specs.contracts.ask.UserRoutes as UserRoutes
 use Rattle.mx_api_user.specs.contracts.route.Route as UserRoute
 use Rattle.mx_api_user.proofs.route.Route.TheSendSync as user_route
 use Rattle.mx_writers.specs.declared.gate.Gate.{Ghosts}
-use Rattle.mx_engine.proofs.Crosses.{engine_send, engine_sync}
+use Rattle.mx_poll.proofs.OfEngine.Crosses.{engine_send, engine_sync}
 use Rattle.mx_serve.specs.contracts.call_asked.Routes as Routes
 use Rattle.mx_serve.specs.contracts.server.Server as Server
 

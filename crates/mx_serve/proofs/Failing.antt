@@ -7,8 +7,8 @@ use Rattle.mx_http.specs.declared.fault.HttpFault.{HttpFault}
 use Rattle.mx_http.specs.declared.fault.HttpFault.TheVariants as faults
 use Rattle.mx_http.specs.Calls.{HasFault}
 use Rattle.mx_http.specs.Reads.{CountsFault, Fails}
-use Rattle.mx_engine.specs.Answers.{Stops}
-use Rattle.mx_aims.specs.Asked.{Site}
+use Rattle.mx_poll.specs.OfEngine.Answers.{Stops}
+use Rattle.mx_poll.specs.Aims.Asked.{Site}
 use Rattle.mx_serve.specs.Answers.{response}
 use Rattle.mx_serve.specs.declared.ended.End.TheVariants as end
 use Rattle.mx_serve.specs.declared.ended.Step.{Step}

@@ -9,12 +9,12 @@ use Rattle.mx_chains.specs.Chains.{marks_of}
 use Rattle.mx_fold.specs.Anywhere.{AreLater, EachRises}
 use Rattle.mx_fold.specs.Lists as fold
 use Rattle.mx_fold.specs.Lists.{AreFewer, Histories}
-use Rattle.mx_engine.specs.Answers.{Stops, counts}
-use Rattle.mx_aims.specs.Asked.{Site}
-use Rattle.mx_engine.specs.Exchanges.{AtMost}
-use Rattle.mx_engine.specs.declared.answered.Answered.{Answered}
-use Rattle.mx_engine.specs.declared.answered.Counts.{Counts}
-use Rattle.mx_engine.specs.declared.answered.Mark.{Mark}
+use Rattle.mx_poll.specs.OfEngine.Answers.{Stops, counts}
+use Rattle.mx_poll.specs.Aims.Asked.{Site}
+use Rattle.mx_poll.specs.OfEngine.Exchanges.{AtMost}
+use Rattle.mx_poll.specs.OfEngine.Answered.{Answered}
+use Rattle.mx_poll.specs.OfEngine.Counts.{Counts}
+use Rattle.mx_poll.specs.OfEngine.Mark.{Mark}
 use Rattle.mx_ask.specs.declared.ask.Request.{Request}
 use Rattle.mx_serve.specs.Asked.{call_asked}
 use Rattle.mx_serve.specs.Chains.{with_answer, with_request}

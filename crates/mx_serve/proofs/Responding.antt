@@ -6,23 +6,23 @@ use Rattle.mx_http.specs.declared.call.Call.{Call}
 use Rattle.mx_render.specs.Rendered.{no_memory_text, said_status, said_text}
 use Rattle.mx_writers.specs.Decision.{Placing}
 use Rattle.mx_fold.specs.Lists.{Histories, lists_of}
-use Rattle.mx_acts.specs.Acts.{Act, Files, Marks, Notes, Puts, Reads, Sends, asked}
+use Rattle.mx_poll.specs.Acts.Acts.{Act, Files, Marks, Notes, Puts, Reads, Sends, asked}
 use Rattle.mx_wait.specs.declared.names.StreamName.{StreamName}
 use Rattle.mx_wait.specs.declared.names.StreamName.TheVariants.{Accounts, Events, Receipts}
-use Rattle.mx_engine.specs.Answers.{IsAnswered, KeepsAct, KeepsBoth, KeepsEntry, KeepsMarker, KeepsNote, KeepsPut, KeepsReceipt, KeepsWrites, LeavesReceipts, Stops, TellsMarker, act_said, counts_of, filed, of_marker, reading}
-use Rattle.mx_aims.specs.Stored.{EntryAimed, EntryPut, Note, NoteAimed, ReceiptAimed, ReceiptPut, marker_put, receipts_put}
-use Rattle.mx_aims.specs.Asked.{Site}
-use Rattle.mx_engine.specs.Written.{Bound, KeepsMark}
-use Rattle.mx_engine.specs.declared.answered.Answered.{Answered}
-use Rattle.mx_engine.specs.declared.answered.Mark.{Mark}
+use Rattle.mx_poll.specs.OfEngine.Answers.{IsAnswered, KeepsAct, KeepsBoth, KeepsEntry, KeepsMarker, KeepsNote, KeepsPut, KeepsReceipt, KeepsWrites, LeavesReceipts, Stops, TellsMarker, act_said, counts_of, filed, of_marker, reading}
+use Rattle.mx_poll.specs.Aims.Stored.{EntryAimed, EntryPut, Note, NoteAimed, ReceiptAimed, ReceiptPut, marker_put, receipts_put}
+use Rattle.mx_poll.specs.Aims.Asked.{Site}
+use Rattle.mx_poll.specs.OfEngine.Written.{Bound, KeepsMark}
+use Rattle.mx_poll.specs.OfEngine.Answered.{Answered}
+use Rattle.mx_poll.specs.OfEngine.Mark.{Mark}
 use Rattle.mx_ids.specs.Memory.{refused_memory}
-use Rattle.mx_engine.specs.declared.answered.Unstored.{Unstored}
-use Rattle.mx_engine.specs.declared.answered.Unstored.TheVariants as unstored
+use Rattle.mx_poll.specs.OfEngine.Unstored.{Unstored}
+use Rattle.mx_poll.specs.OfEngine.UnstoredVariants as unstored
 use Rattle.mx_ask.specs.declared.ask.Ask.{Ask}
 use Rattle.mx_ask.specs.declared.ask.Who.{Who}
 use Rattle.mx_ask.specs.declared.said.Said.{Said}
 use Rattle.mx_ask.specs.declared.said.Said.TheVariants as said
-use Rattle.mx_engine.proofs.Done.{all_self, none_done}
+use Rattle.mx_poll.proofs.OfEngine.Done.{all_self, none_done}
 use Rattle.mx_serve.specs.declared.call_asked.CallAsked.{CallAsked}
 use Rattle.mx_serve.specs.declared.call_asked.CallAsked.TheVariants as call
 use Rattle.mx_serve.specs.declared.ended.End.TheVariants as end

@@ -3,21 +3,21 @@ use Rattle.std.proofs.Common.{◌≡◌, ℕ, ◌+◌, ◌≤◌, ◌||◌, List
 use Rattle.mx_http.specs.declared.call.Call.{Call}
 use Rattle.mx_ids.specs.Memory.{refused_memory}
 use Rattle.mx_fold.specs.Lists.{Grows, Histories}
-use Rattle.mx_acts.specs.Acts.{asked}
-use Rattle.mx_aims.specs.Asked.{Site}
+use Rattle.mx_poll.specs.Acts.Acts.{asked}
+use Rattle.mx_poll.specs.Aims.Asked.{Site}
 use Rattle.mx_ask.specs.declared.ask.Ask.{Ask}
 use Rattle.mx_ask.specs.declared.ask.Who.{Who}
 use Rattle.mx_ask.specs.declared.said.Said.TheVariants as said
-use Rattle.mx_engine.specs.Answers.{IsAnswered, Stops, answer_to, counts, counts_of, made_for}
-use Rattle.mx_engine.specs.Exchanges.{first_of}
-use Rattle.mx_engine.specs.Shown.{Looks, LooksBy, LooksFor, is_whoami, looks_of, made_of, stores_of}
-use Rattle.mx_engine.specs.Written.{Made}
-use Rattle.mx_engine.specs.declared.answered.Answered.{Answered}
-use Rattle.mx_engine.specs.declared.answered.Counts.{Counts}
-use Rattle.mx_engine.specs.declared.answered.Mark.{Mark}
-use Rattle.mx_engine.specs.declared.held.EnginePass.{EnginePass}
-use Rattle.mx_engine.proofs.Done.{made_wanting, no_made}
-use Rattle.mx_engine.proofs.Exchanges.{at_exit, kept_first}
+use Rattle.mx_poll.specs.OfEngine.Answers.{IsAnswered, Stops, answer_to, counts, counts_of, made_for}
+use Rattle.mx_poll.specs.OfEngine.Exchanges.{first_of}
+use Rattle.mx_poll.specs.OfEngine.Shown.{Looks, LooksBy, LooksFor, is_whoami, looks_of, made_of, stores_of}
+use Rattle.mx_poll.specs.OfEngine.Written.{Made}
+use Rattle.mx_poll.specs.OfEngine.Answered.{Answered}
+use Rattle.mx_poll.specs.OfEngine.Counts.{Counts}
+use Rattle.mx_poll.specs.OfEngine.Mark.{Mark}
+use Rattle.mx_poll.specs.OfEngine.EnginePass.{EnginePass}
+use Rattle.mx_poll.proofs.OfEngine.Done.{made_wanting, no_made}
+use Rattle.mx_poll.proofs.OfEngine.Exchanges.{at_exit, kept_first}
 use Rattle.mx_api.specs.declared.refused.Refused.{Refused}
 use Rattle.mx_poll.specs.Waits.{HasWaited, ReadsOn, wait_of}
 use Rattle.mx_poll.proofs.Waited.{waits_none, waits_told}

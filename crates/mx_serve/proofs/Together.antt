@@ -5,12 +5,12 @@ use Rattle.mx_http.specs.declared.call.Call.{Call}
 use Rattle.mx_chains.proofs.Chaining as law
 use Rattle.mx_chains.specs.Chains.{AreAnswers}
 use Rattle.mx_fold.specs.Lists.{Grows, Histories}
-use Rattle.mx_engine.specs.Answers.{Stops, counts}
-use Rattle.mx_aims.specs.Asked.{Site}
-use Rattle.mx_engine.specs.declared.answered.Answered.{Answered}
-use Rattle.mx_engine.specs.declared.answered.Counts.{Counts}
-use Rattle.mx_engine.specs.declared.answered.Mark.{Mark}
-use Rattle.mx_engine.proofs.Exchanges.{longer}
+use Rattle.mx_poll.specs.OfEngine.Answers.{Stops, counts}
+use Rattle.mx_poll.specs.Aims.Asked.{Site}
+use Rattle.mx_poll.specs.OfEngine.Answered.{Answered}
+use Rattle.mx_poll.specs.OfEngine.Counts.{Counts}
+use Rattle.mx_poll.specs.OfEngine.Mark.{Mark}
+use Rattle.mx_poll.proofs.OfEngine.Exchanges.{longer}
 use Rattle.mx_ask.specs.declared.ask.Request.{Request}
 use Rattle.mx_serve.specs.Asked.{call_asked}
 use Rattle.mx_serve.specs.Chains.{answers_of, requests_of, with_answer, with_request}

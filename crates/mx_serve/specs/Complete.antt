@@ -3,9 +3,9 @@ use Rattle.std.specs.Prelude.{◌≡◌, ℕ, ◌<◌, List, ◌++◌, Some, tru
 use Rattle.mx_outside.specs.Causes.{Rose}
 use Rattle.mx_http.specs.declared.call.Call.{Call}
 use Rattle.mx_http.specs.Calls.{AreCalls}
-use Rattle.mx_engine.specs.Answers.{Stops}
-use Rattle.mx_aims.specs.Asked.{Site}
-use Rattle.mx_engine.specs.declared.answered.Mark.{Mark}
+use Rattle.mx_poll.specs.OfEngine.Answers.{Stops}
+use Rattle.mx_poll.specs.Aims.Asked.{Site}
+use Rattle.mx_poll.specs.OfEngine.Mark.{Mark}
 use Rattle.mx_serve.specs.declared.ended.End.{End}
 use Rattle.mx_serve.specs.declared.ended.End.TheVariants as end
 use Rattle.mx_serve.specs.Sessions.{InputFaults, IsServed, Moment, OutputFaults, asks_end}

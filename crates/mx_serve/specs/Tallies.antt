@@ -3,14 +3,14 @@ use Rattle.std.specs.Prelude.{◌≡◌, ℕ, ◌+◌, ◌≤◌, ◌||◌, List
 use Rattle.mx_http.specs.declared.call.Call.{Call}
 use Rattle.mx_ids.specs.declared.users.Users.{Users}
 use Rattle.mx_fold.specs.Lists.{Histories}
-use Rattle.mx_acts.specs.Acts.{asked}
-use Rattle.mx_aims.specs.Asked.{Site}
-use Rattle.mx_engine.specs.Answers.{answer_to, counts, made_for}
-use Rattle.mx_engine.specs.Exchanges.{first_of}
-use Rattle.mx_engine.specs.Shown.{Looks, is_whoami, looks_of, made_of}
-use Rattle.mx_engine.specs.Written.{Made}
-use Rattle.mx_engine.specs.declared.answered.Mark.{Mark}
-use Rattle.mx_engine.specs.declared.held.EnginePass.{EnginePass}
+use Rattle.mx_poll.specs.Acts.Acts.{asked}
+use Rattle.mx_poll.specs.Aims.Asked.{Site}
+use Rattle.mx_poll.specs.OfEngine.Answers.{answer_to, counts, made_for}
+use Rattle.mx_poll.specs.OfEngine.Exchanges.{first_of}
+use Rattle.mx_poll.specs.OfEngine.Shown.{Looks, is_whoami, looks_of, made_of}
+use Rattle.mx_poll.specs.OfEngine.Written.{Made}
+use Rattle.mx_poll.specs.OfEngine.Mark.{Mark}
+use Rattle.mx_poll.specs.OfEngine.EnginePass.{EnginePass}
 use Rattle.mx_poll.specs.Waits.{HasWaited, ReadsOn, last_of}
 use Rattle.mx_serve.specs.Asked.{call_asked}
 use Rattle.mx_serve.specs.declared.call_asked.CallAsked.{CallAsked}

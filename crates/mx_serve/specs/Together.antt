@@ -5,11 +5,11 @@ use Rattle.mx_http.specs.declared.call.Call.{Call}
 use Rattle.mx_ids.specs.declared.users.Users.{Users}
 use Rattle.mx_chains.specs.Chains.{AgreeAnywhere, AgreeFollowing, AgreeRedacted, See}
 use Rattle.mx_fold.specs.Lists.{AreLawful, Grows, Histories}
-use Rattle.mx_engine.specs.Answers.{Stops}
-use Rattle.mx_aims.specs.Asked.{Site}
-use Rattle.mx_engine.specs.declared.answered.Answered.{Answered}
-use Rattle.mx_engine.specs.declared.answered.Counts.{Counts}
-use Rattle.mx_engine.specs.declared.answered.Mark.{Mark}
+use Rattle.mx_poll.specs.OfEngine.Answers.{Stops}
+use Rattle.mx_poll.specs.Aims.Asked.{Site}
+use Rattle.mx_poll.specs.OfEngine.Answered.{Answered}
+use Rattle.mx_poll.specs.OfEngine.Counts.{Counts}
+use Rattle.mx_poll.specs.OfEngine.Mark.{Mark}
 use Rattle.mx_ask.specs.declared.ask.Request.{Request}
 use Rattle.mx_serve.specs.Asked.{call_asked}
 use Rattle.mx_serve.specs.Chains.{answers_of, requests_of}

@@ -2,8 +2,8 @@
 ghost use Rattle.std.specs.Prelude.{◌≡◌, IfOk};
 
 use crate::call_asked::Routes;
-use mx_engine::Engine;
 use mx_ids::Memory;
+use mx_poll::Engine;
 use mx_writers::Gate;
 use std::alloc::Global;
 

@@ -58,7 +58,7 @@ use Rattle.mx_snapshot.specs.Events.{rooms_of, with_own}
 use Rattle.mx_snapshot.specs.Lists.{room_cmp}
 use Rattle.mx_snapshot.specs.Looks.{last_position}
 use Rattle.mx_snapshot.specs.Receipts as receipts
-use Rattle.mx_unread.specs.declared.unread_counts.Counts.{Counts}
+use Rattle.mx_rest.specs.Unread.Counts.{Counts}
 use Rattle.mx_rest.specs.Accounts.{account_in, is_sent}
 use Rattle.mx_rest.specs.Receipts.{itself, key_cmp, key_of, receipts_in, sees}
 use Rattle.mx_rest.specs.Rests.{counts_in, delta_of, differs_of, heroes_if, news, same_counts, summary_in, summary_sent}

@@ -15,4 +15,5 @@ mod laws;
 mod still;
 
 pub use laws::stays_empty;
+pub use mx_sync::Known;
 pub use still::is_still;

@@ -14,8 +14,8 @@ use Rattle.mx_receipt.specs.declared.receipt.Receipt.{Receipt}
 use Rattle.mx_window.specs.Windows.{stand_from}
 use Rattle.mx_snapshot.specs.declared.snapshot.Snapshot.{Snapshot}
 use Rattle.mx_view.specs.Tokens.{is_before}
-use Rattle.mx_unread.specs.Kept.{IsPlaced, IsSameUpTo, StandAll, StandsWithin, TalliesLast, fronts_in}
-use Rattle.mx_unread.specs.declared.running.Tally.{Tally}
+use Rattle.mx_rest.specs.Unread.Kept.{IsPlaced, IsSameUpTo, StandAll, StandsWithin, TalliesLast, fronts_in}
+use Rattle.mx_rest.specs.Unread.Tally.{Tally}
 
 -- the first items of a list are those of a longer one
 first_same : {A : Type 0} (n : ℕ) (xs more : List A) → n ≤ length xs → take n xs ≡ take n (xs ++ more)

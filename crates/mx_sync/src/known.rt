@@ -21,8 +21,8 @@ use mx_event::Event;
 use mx_ids::{Memory, Seq};
 use mx_lanes::Parts;
 use mx_receipt::Receipt;
+use mx_rest::{Tally, tallies_last};
 use mx_snapshot::Snapshot;
-use mx_unread::{Tally, tallies_last};
 use std::alloc::Global;
 use std::marker::Model;
 
@@ -36,7 +36,7 @@ pub struct Known {
 impl Model for Known {
     ghost use Rattle.mx_snapshot.specs.contracts.snapshot.Snapshot.{the_row as snapshot_row};
     ghost use Rattle.mx_snapshot.specs.declared.snapshot.Snapshot.{Snapshot};
-    ghost use Rattle.mx_unread.specs.Kept.{StandAll};
+    ghost use Rattle.mx_rest.specs.Unread.Kept.{StandAll};
 
     ghost Value = { Snapshot };
 

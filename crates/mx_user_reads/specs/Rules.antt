@@ -11,7 +11,7 @@ use Rattle.mx_rules.specs.Rules.{Rules, of_kind}
 use Rattle.mx_rules.specs.Writing.{content_of, entry_json, kinds_json, single, with_conditions, with_nothing, with_pattern}
 use Rattle.mx_rules.specs.declared.rule.Kind.{Kind}
 use Rattle.mx_rules.specs.declared.rule.Kind.TheVariants as kinds
-use Rattle.mx_unread.specs.Unread.{rules_at}
+use Rattle.mx_room_reads.specs.Unread.Unread.{rules_at}
 use Rattle.mx_user_reads.specs.Told.{told}
 
 -- those that are stored, or the default ones

@@ -2,7 +2,7 @@
 
 ghost use Rattle.std.specs.Prelude.{◌≡◌, IfOk, option_and_then};
 ghost use Rattle.std.specs.Option.{option_copied};
-ghost use Rattle.mx_rest.specs.Servers.{lists_of};
+ghost use Rattle.mx_room_reads.specs.Rest.Servers.{lists_of};
 ghost use Rattle.mx_snapshot.specs.Looks.{all_now};
 ghost use Rattle.mx_user_reads.specs.Filters.{filter_in, filter_named, filter_read, filter_stored, first_filter, number_of, stored_filter};
 

@@ -16,5 +16,8 @@ mod told;
 mod values;
 
 pub use filters::{filter_named, stored_filter};
+pub use mx_room_reads::{
+    has_room, joined_rooms, one_event, room_members, room_state, state_content,
+};
 pub use rules::{push_rule, push_rules, rule_actions, rule_enabled};
 pub use values::{account_value, room_tags};

@@ -1,7 +1,7 @@
 //! A user's push rules.
 
 ghost use Rattle.std.specs.Prelude.{◌≡◌, IfOk};
-ghost use Rattle.mx_rest.specs.Servers.{lists_of};
+ghost use Rattle.mx_room_reads.specs.Rest.Servers.{lists_of};
 ghost use Rattle.mx_rules.specs.Rules.{rules_of};
 ghost use Rattle.mx_user_reads.specs.Rules.{push_rule, push_rules, rule_actions, rule_enabled, rules_json, rules_now};
 
@@ -10,9 +10,9 @@ use crate::told::told;
 use mx_ask::Said;
 use mx_ids::{Memory, Text, UserId};
 use mx_json::Json;
+use mx_room_reads::rules_at;
 use mx_rules::{Kind, RuleSet, kinds_json};
 use mx_snapshot::Snapshot;
-use mx_unread::rules_at;
 use std::alloc::Global;
 
 /// A user's push rules: those that are stored, or the default ones where none are (Client-Server API, Push rules,

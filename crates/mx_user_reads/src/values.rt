@@ -3,7 +3,7 @@
 ghost use Rattle.std.specs.Prelude.{◌≡◌, IfOk, None, Some, codes};
 ghost use Rattle.std.specs.Option.{option_copied};
 ghost use Rattle.mx_account.specs.Entries.{content_of};
-ghost use Rattle.mx_rest.specs.Servers.{lists_of};
+ghost use Rattle.mx_room_reads.specs.Rest.Servers.{lists_of};
 ghost use Rattle.mx_rules.specs.Defaults.{default_rules};
 ghost use Rattle.mx_rules.specs.Writing as rules;
 ghost use Rattle.mx_user_reads.specs.Values.{account_value, default_value, has_default, is_there, room_tags, stored_value, tags_json};

@@ -14,3 +14,4 @@
 mod laws;
 
 pub use laws::{pictures_are, same_paged, same_read, same_told, valid_folds, valid_is_story};
+pub use mx_event::Event;

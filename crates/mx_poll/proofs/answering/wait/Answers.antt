@@ -1,7 +1,7 @@
 use Rattle.std.proofs.Common.{ap, refl, subst, sym}
 use Rattle.mx_engine.specs.declared.answered.Mark.{Mark}
 use Rattle.mx_poll.proofs.Readings.{reads_none}
-use Rattle.mx_acts.specs.Acts.{Reads}
+use Rattle.mx_engine.specs.Acts.Acts.{Reads}
 use Rattle.mx_engine.specs.Shown.{stops_of, stores_of}
 use Rattle.mx_engine.proofs.Done.{none_done}
 use Rattle.mx_fold.specs.Lists.{lists_of}

@@ -1,6 +1,6 @@
 use Rattle.std.proofs.Common.{sym, ap, ◌∙◌, subst, arith}
-use Rattle.mx_engine.specs.Shown.{Ties, stores_of}
-use Rattle.mx_engine.proofs.Known.{grows_twice}
+use Rattle.mx_serve.specs.OfEngine.Shown.{Ties, stores_of}
+use Rattle.mx_serve.proofs.OfEngine.Known.{grows_twice}
 use Rattle.mx_pool.proofs.Gathered.{served_meet, ties_at}
 use Rattle.mx_pool.proofs.gathering.gather.Goals as goal
 

@@ -1,7 +1,7 @@
 use Rattle.std.proofs.Common.{◌≡◌, ◌+◌, ◌≤◌}
 use Rattle.std.specs.Prelude.{vec_len}
 use Rattle.mx_pool.specs.Connections.{HaveServed}
-use Rattle.mx_engine.specs.Shown.{Ties, stores_of}
+use Rattle.mx_serve.specs.OfEngine.Shown.{Ties, stores_of}
 use Rattle.mx_fold.specs.Lists.{Grows}
 use Rattle.mx_pool.proofs.gathering.gather.Given as goal
 

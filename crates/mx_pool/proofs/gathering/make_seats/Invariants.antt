@@ -1,5 +1,5 @@
 use Rattle.std.proofs.Common.{◌≡◌, ◌+◌}
-use Rattle.mx_engine.specs.Shown.{Ties, stores_of}
+use Rattle.mx_serve.specs.OfEngine.Shown.{Ties, stores_of}
 use Rattle.mx_pool.proofs.gathering.make_seats.Given as goal
 
 -- a part of the ledger for each seat that isn't made yet

@@ -1,7 +1,7 @@
 use Rattle.std.proofs.Common.{sym, subst}
 use Rattle.mx_fold.specs.Lists.{Grows}
-use Rattle.mx_engine.specs.Shown.{stores_of}
-use Rattle.mx_engine.proofs.Done.{all_self}
+use Rattle.mx_serve.specs.OfEngine.Shown.{stores_of}
+use Rattle.mx_serve.proofs.OfEngine.Done.{all_self}
 use Rattle.mx_pool.proofs.Ending.{begun_none}
 use Rattle.mx_pool.proofs.serving.serve_by.Goals as goal
 

@@ -1,5 +1,5 @@
 use Rattle.std.proofs.Common.{sym, subst, arith}
-use Rattle.mx_engine.specs.Shown.{stores_of}
+use Rattle.mx_serve.specs.OfEngine.Shown.{stores_of}
 use Rattle.mx_pool.specs.Connections.{change}
 use Rattle.mx_pool.specs.Serving.{AreBegun}
 use Rattle.mx_pool.proofs.Ending.{begun_all}

@@ -1,6 +1,6 @@
 use Rattle.std.proofs.Common.{refl}
 use Rattle.mx_outside.specs.Causes.{Rose}
-use Rattle.mx_engine.specs.Shown.{site_of, stops_of, stores_of}
+use Rattle.mx_serve.specs.OfEngine.Shown.{site_of, stops_of, stores_of}
 use Rattle.mx_pool.specs.Connections.{change, ends_by, service_of}
 use Rattle.mx_pool.specs.Runs.{arrivals}
 use Rattle.mx_pool.specs.Serving.{HasNoneLeft}

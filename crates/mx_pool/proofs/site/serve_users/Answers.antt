@@ -1,4 +1,4 @@
-use Rattle.mx_engine.specs.Shown.{looks_of, made_of, stores_of, site_of, stops_of}
+use Rattle.mx_serve.specs.OfEngine.Shown.{looks_of, made_of, stores_of, site_of, stops_of}
 use Rattle.mx_pool.specs.Connections.{change, clocked}
 use Rattle.mx_pool.proofs.Runs.{serves}
 use Rattle.mx_pool.proofs.site.serve_users.Goals as goal

@@ -4,7 +4,7 @@ use Rattle.mx_event.specs.Kinds.{member_type}
 use Rattle.mx_event.specs.Shown.{position_of}
 use Rattle.mx_snapshot.specs.Events.{versions}
 use Rattle.mx_snapshot.specs.Looks.{all_now}
-use Rattle.mx_sync.proofs.Stays.{end_none, end_some}
+use Rattle.mx_ask.proofs.Sync.Stays.{end_none, end_some}
 use Rattle.mx_room_reads.proofs.places.end_of.Goals as goal
 
 pub returns-then-join-eq0 : goal.returns-then-join-eq0

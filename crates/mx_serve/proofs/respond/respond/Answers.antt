@@ -1,7 +1,7 @@
 use Rattle.std.proofs.Common.{ap, ◌∙◌}
 use Rattle.mx_http.specs.Answers.{body_text}
 use Rattle.mx_http.specs.declared.answer.Answer.{Answer}
-use Rattle.mx_engine.specs.Shown.{stores_of, site_of, stops_of}
+use Rattle.mx_poll.specs.OfEngine.Shown.{stores_of, site_of, stops_of}
 use Rattle.mx_serve.specs.Asked.{call_asked}
 use Rattle.mx_serve.specs.Tallies.{tally}
 use Rattle.mx_serve.proofs.Responding.{wanting_responds}

@@ -1,5 +1,5 @@
 use Rattle.std.proofs.Math.Logic.{∥∥₁_map}
-use Rattle.mx_engine.specs.Shown.{stores_of}
+use Rattle.mx_serve.specs.OfEngine.Shown.{stores_of}
 use Rattle.mx_pool.proofs.Gathered.{owes}
 use Rattle.mx_pool.proofs.seated.Seated.take.Goals as goal
 

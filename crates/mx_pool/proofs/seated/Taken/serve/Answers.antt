@@ -1,7 +1,7 @@
 use Rattle.mx_pool.specs.Connections.{change, ends}
-use Rattle.mx_engine.specs.Shown.{stores_of}
+use Rattle.mx_serve.specs.OfEngine.Shown.{stores_of}
 use Rattle.mx_serve.specs.Tallies.{tally}
-use Rattle.mx_engine.proofs.Done.{all_self}
+use Rattle.mx_serve.proofs.OfEngine.Done.{all_self}
 use Rattle.mx_pool.proofs.Gathered.{at_ties, served_now, ties_at}
 use Rattle.mx_pool.proofs.seated.Taken.serve.Goals as goal
 

@@ -27,3 +27,6 @@ mod told;
 mod user_asks;
 #[cfg(test)]
 mod user_calls;
+
+/// The crate is its tests: a program, so that nothing is built of it for crates above.
+fn main() {}

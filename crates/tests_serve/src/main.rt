@@ -50,3 +50,6 @@ mod user_tables;
 mod whole_sink;
 #[cfg(test)]
 mod writers;
+
+/// The crate is its tests: a program, so that nothing is built of it for crates above.
+fn main() {}

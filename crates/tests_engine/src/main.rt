@@ -17,3 +17,6 @@ mod rooms;
 mod told;
 #[cfg(test)]
 mod writers;
+
+/// The crate is its tests: a program, so that nothing is built of it for crates above.
+fn main() {}

@@ -1,0 +1,1 @@
+pub use Rattle.mx_user_reads.specs.RoomReads.Places.{has_room}

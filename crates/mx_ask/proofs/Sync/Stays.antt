@@ -1,0 +1,1 @@
+pub use Rattle.mx_sync.proofs.Stays.{end_none, end_some}

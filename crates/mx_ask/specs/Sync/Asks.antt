@@ -1,0 +1,1 @@
+pub use Rattle.mx_sync.specs.Asks.{ahead_of, held}

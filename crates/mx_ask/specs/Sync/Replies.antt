@@ -1,0 +1,1 @@
+pub use Rattle.mx_sync.specs.Replies.{reply_of}

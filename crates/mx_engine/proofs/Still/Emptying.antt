@@ -1,0 +1,1 @@
+pub use Rattle.mx_still.proofs.Emptying.{stays_empty}

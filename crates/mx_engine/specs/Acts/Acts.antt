@@ -1,0 +1,1 @@
+pub use Rattle.mx_acts.specs.Acts.{Act, Files, Marks, Notes, Puts, Reads, Sends, asked}

@@ -1,0 +1,1 @@
+pub use Rattle.mx_aims.specs.Asked.{Site, room_of}

@@ -1,0 +1,1 @@
+pub use Rattle.mx_acts.specs.RoomReads.Places.{has_room}

@@ -1,0 +1,1 @@
+pub use Rattle.mx_still.specs.Concerns.{is_still}

@@ -1,0 +1,1 @@
+pub use Rattle.mx_core.specs.History.{Begins}

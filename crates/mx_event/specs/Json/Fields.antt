@@ -1,0 +1,1 @@
+pub use Rattle.mx_json.specs.Fields.{text_at}

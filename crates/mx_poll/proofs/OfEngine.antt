@@ -1,0 +1,4 @@
+pub mod Crosses
+pub mod Done
+pub mod Exchanges
+pub mod Known

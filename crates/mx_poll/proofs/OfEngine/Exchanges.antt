@@ -1,0 +1,1 @@
+pub use Rattle.mx_engine.proofs.Exchanges.{at_exit, kept_first, longer}

@@ -1,0 +1,1 @@
+pub use Rattle.mx_engine.proofs.Known.{grows_twice}

@@ -1,0 +1,11 @@
+pub mod Answered
+pub mod Answers
+pub mod Counts
+pub mod Engine
+pub mod EnginePass
+pub mod Exchanges
+pub mod Mark
+pub mod Shown
+pub mod Unstored
+pub mod UnstoredVariants
+pub mod Written

@@ -1,0 +1,1 @@
+pub use Rattle.mx_engine.specs.Exchanges.{AreExchanges, AtMost, first_of}

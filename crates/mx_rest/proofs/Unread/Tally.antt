@@ -1,0 +1,1 @@
+pub use Rattle.mx_unread.proofs.running.Tally.TheSendSync.{the_send, the_sync}

@@ -1,0 +1,1 @@
+pub use Rattle.mx_unread.specs.Kept.{IsPlaced, IsSameUpTo, StandAll, StandsWithin, TalliesLast, fronts_in}

@@ -1,0 +1,1 @@
+pub use Rattle.mx_unread.specs.Unread.{rules_at}

@@ -1,0 +1,5 @@
+pub mod Refusal
+pub mod RefusalVariants
+pub mod Said
+pub mod SaidVariants
+pub mod Who

@@ -1,0 +1,1 @@
+pub use Rattle.mx_ask.specs.declared.said.Said.TheVariants.{Done, Room, Sent}

@@ -1,0 +1,1 @@
+pub use Rattle.mx_rest.specs.Servers.{AreValid, lists_of}

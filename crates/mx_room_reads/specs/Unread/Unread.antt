@@ -1,0 +1,1 @@
+pub use Rattle.mx_rest.specs.Unread.Unread.{rules_at}

@@ -1,0 +1,3 @@
+pub mod Crosses
+pub mod Done
+pub mod Known

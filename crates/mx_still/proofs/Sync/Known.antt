@@ -1,0 +1,1 @@
+pub use Rattle.mx_sync.specs.contracts.known.Known.{the_row}

@@ -1,0 +1,1 @@
+pub use Rattle.mx_sync.specs.contracts.known.Known.TheInside.{the_row, the_type}

@@ -1,0 +1,1 @@
+pub use Rattle.mx_event.specs.declared.event.Event.{Event}

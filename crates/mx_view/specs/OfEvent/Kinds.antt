@@ -1,0 +1,1 @@
+pub use Rattle.mx_event.specs.Kinds.{is_text}
