@@ -1,5 +1,5 @@
 //! A sink in memory.
-ghost use Rattle.std.specs.Prelude.{◌≡◌, ◌≤◌, [], true, Some};
+ghost use Rattle.std.specs.Prelude.{◌≡◌, ◌≤◌, [], true, false, Some};
 ghost use Rattle.mx_outside.specs.Causes.{Rose};
 ghost use Rattle.mx_outside.specs.Moves.{Adds};
 ghost use Rattle.mx_outside.specs.Calls.{SinkState, called, fresh, has_failed, is_failing};
@@ -60,5 +60,16 @@ impl Sink for MemSink {
         }
         self.calls.fault();
         Put::Failed
+    }
+
+    /// Memory doesn't go away.
+    fn is_gone(&mut self) -> bool
+        ensures same { self.new ≡ self.old }
+        ensures none { result ≡ false }
+        ensures bytes { Some self.new.written ≡ Some self.old.written }
+        ensures count { self.old.plan.faults ≤ self.new.plan.faults }
+        ensures cause { result ≡ true → Rose self.old.plan.faults self.new.plan.faults }
+    {
+        false
     }
 }

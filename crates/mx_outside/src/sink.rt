@@ -1,5 +1,5 @@
 //! A sink of bytes.
-ghost use Rattle.std.specs.Prelude.{◌≡◌, ℕ, ◌≤◌, List};
+ghost use Rattle.std.specs.Prelude.{◌≡◌, ℕ, ◌≤◌, List, true};
 ghost use Rattle.std.specs.declared.option.Option.{Option};
 ghost use Rattle.mx_outside.specs.Causes.{Rose};
 ghost use Rattle.mx_outside.specs.Moves.{Adds};
@@ -27,4 +27,11 @@ pub trait Sink {
         ensures bytes { Adds (written self.old) (written self.new) result bytes.now }
         ensures count { faults self.old ≤ faults self.new }
         ensures cause { result ≡ Put.Failed → Rose (faults self.old) (faults self.new) };
+
+    /// Whether who takes the bytes has gone away, as far as that can be told without adding any. It is
+    /// so only where the count of faults rose in this call, or stands at its last value.
+    fn is_gone(&mut self) -> bool
+        ensures bytes { written self.new ≡ written self.old }
+        ensures count { faults self.old ≤ faults self.new }
+        ensures cause { result ≡ true → Rose (faults self.old) (faults self.new) };
 }

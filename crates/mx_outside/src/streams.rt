@@ -1,5 +1,6 @@
 //! The standard streams, and any reader or writer of std.
-ghost use Rattle.std.specs.Prelude.{◌≡◌};
+ghost use Rattle.std.specs.Prelude.{◌≡◌, ◌≤◌};
+ghost use Rattle.mx_outside.specs.Causes.{Rose};
 ghost use Rattle.mx_outside.specs.Moves.{Adds};
 
 use crate::sink::{Put, Sink};
@@ -62,6 +63,21 @@ impl<W: Write> Writing<W> {
     {
         Writing { writer, faults: 0 }
     }
+
+    pub(crate) fn writer(&self) -> &W
+        ensures { result.now ≡ self.now.0 }
+    {
+        &self.writer
+    }
+
+    /// Counts a fault.
+    pub(crate) fn fault(&mut self)
+        ensures writer { self.new.0 ≡ self.old.0 }
+        ensures count { self.old.1 ≤ self.new.1 }
+        ensures rose { Rose self.old.1 self.new.1 }
+    {
+        self.faults = self.faults.saturating_add(1);
+    }
 }
 
 impl<R: Read> Source for Reading<R> {
@@ -90,9 +106,14 @@ impl<W: Write> Sink for Writing<W> {
     fn put(&mut self, bytes: &[u8]) -> Put {
         let put = write_and_flush(&mut self.writer, bytes);
         if matches!(put, Put::Failed) {
-            self.faults = self.faults.saturating_add(1);
+            self.fault();
         }
         put
+    }
+
+    /// A writer tells it by its errors alone.
+    fn is_gone(&mut self) -> bool {
+        false
     }
 }
 

@@ -151,4 +151,32 @@ impl Sink for TcpOut {
         self.answers.fetch_add(1, Ordering::Relaxed);
         put
     }
+
+    /// The other end has gone away where it sends nothing more, or the connection has failed.
+    fn is_gone(&mut self) -> bool {
+        let gone = has_left(self.stream.writer());
+        if gone {
+            self.stream.fault();
+        }
+        gone
+    }
+}
+
+/// Whether the other end sends nothing more. What it has sent stays to be read.
+fn has_left(stream: &TcpStream) -> bool {
+    if stream.set_nonblocking(true).is_err() {
+        return false;
+    }
+    let peeked = stream.peek(&mut [0]);
+    let reset = stream.set_nonblocking(false);
+    let left = match peeked {
+        Ok(count) => count == 0,
+        Err(error) => !is_passing(error.kind()),
+    };
+    left || reset.is_err()
+}
+
+/// An error after which a connection goes on.
+fn is_passing(kind: io::ErrorKind) -> bool {
+    matches!(kind, io::ErrorKind::WouldBlock | io::ErrorKind::Interrupted)
 }
