@@ -1,2 +1,3 @@
 pub mod Grouped
+pub mod Keys
 pub mod Puts

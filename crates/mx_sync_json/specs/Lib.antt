@@ -1,5 +1,6 @@
 pub mod Objects
 pub mod Receipts
 pub mod Groups
+pub mod Keyed
 pub mod Rooms
 pub mod Replies

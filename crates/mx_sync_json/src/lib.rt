@@ -10,6 +10,7 @@
 #![tactic(auto)]
 
 mod accounts;
+mod keyed;
 mod members;
 mod numbers;
 mod receipts;

@@ -5,9 +5,11 @@ ghost use Rattle.std.specs.Option.{option_copied};
 ghost use Rattle.mx_ids.specs.Ids.{room_id_text};
 ghost use Rattle.mx_json.specs.Keys.{with_member};
 ghost use Rattle.mx_json.specs.declared.value.Json.TheVariants as json;
+ghost use Rattle.mx_sync_json.specs.Keyed.{members_in};
 ghost use Rattle.mx_sync_json.specs.Rooms as form;
 
 use crate::accounts::account_form;
+use crate::keyed::{members_of, set_keyed};
 use crate::members::{events_form, put, single};
 use crate::numbers::{counts_form, summary_form};
 use crate::receipts::ephemeral_form;
@@ -19,6 +21,7 @@ use mx_receipt::Receipt;
 use mx_sync::{InvitedRoom, JoinedRoom, LeftRoom, RoomRest};
 use mx_unread::Counts;
 use std::alloc::Global;
+use std::collections::BTreeMap;
 
 /// The rooms that the user is joined in, by the texts of their ids.
 pub(crate) fn joined_rooms(
@@ -28,12 +31,12 @@ pub(crate) fn joined_rooms(
 ) -> Result<Members<Json>, Memory>
     ensures { IfOk result (λ ms. ms ≡ fold (form.with_joined to.now.server.now to.now.device to.now.front) [] rooms.now) }
 {
-    let mut members = Members::new(alloc);
+    let mut listed = BTreeMap::new(alloc);
     'rooms: for room in rooms.as_slice() {
         let value = joined_form(alloc, to, room)?;
-        set_room(alloc, &mut members, to.server, &room.room, value)?;
+        set_room(alloc, &mut listed, to.server, &room.room, value)?;
     }
-    Ok(members)
+    members_of(alloc, listed)
 }
 
 /// The rooms that the user is invited to.
@@ -44,12 +47,12 @@ pub(crate) fn invited_rooms(
 ) -> Result<Members<Json>, Memory>
     ensures { IfOk result (λ ms. ms ≡ fold (form.with_invited server.now) [] rooms.now) }
 {
-    let mut members = Members::new(alloc);
+    let mut listed = BTreeMap::new(alloc);
     'rooms: for room in rooms.as_slice() {
         let value = invited_form(alloc, room)?;
-        set_room(alloc, &mut members, server, &room.room, value)?;
+        set_room(alloc, &mut listed, server, &room.room, value)?;
     }
-    Ok(members)
+    members_of(alloc, listed)
 }
 
 /// The rooms that the user left.
@@ -60,26 +63,27 @@ pub(crate) fn left_rooms(
 ) -> Result<Members<Json>, Memory>
     ensures { IfOk result (λ ms. ms ≡ fold (form.with_left to.now.server.now to.now.device to.now.front) [] rooms.now) }
 {
-    let mut members = Members::new(alloc);
+    let mut listed = BTreeMap::new(alloc);
     'rooms: for room in rooms.as_slice() {
         let value = left_form(alloc, to, room)?;
-        set_room(alloc, &mut members, to.server, &room.room, value)?;
+        set_room(alloc, &mut listed, to.server, &room.room, value)?;
     }
-    Ok(members)
+    members_of(alloc, listed)
 }
 
+/// Puts a room under the text of its id.
 fn set_room(
     alloc: Global,
-    members: &mut Members<Json>,
+    listed: &mut BTreeMap<Text, Json>,
     server: &str,
     room: &RoomId,
     value: Json,
 ) -> Result<(), Memory>
-    ensures { OnOk result (members.new ≡ with_member (room_id_text server.now room.now) value members.old) }
+    ensures { OnOk result (members_in listed.new.entries ≡ with_member (room_id_text server.now room.now) value (members_in listed.old.entries)) }
 {
     let mut id = Text::new(alloc);
     write_room_id(alloc, room, server, &mut id)?;
-    members.set(id, value)
+    set_keyed(listed, id, value)
 }
 
 fn joined_form(alloc: Global, to: &Reader<'_>, room: &JoinedRoom) -> Result<Json, Memory>
