@@ -199,17 +199,17 @@ placed_at all is n =
     (rooms_are_valid h (begins_orderly h all.events begins is.orderly) (keeps_law_front lawful_store h all.events begins is.events)).0
 
 module _ (site : Site) (all : Histories) (lawful : AreLawful all) (user : List ℕ) (device : ℕ) where
-  abbrev w : Server RoomView RoomDelta
+  abbrev pub w : Server RoomView RoomDelta
   w = server_for user
 
-  abbrev lists_in : Answered → Lists
+  abbrev pub lists_in : Answered → Lists
   lists_in a = lists_of (first_of all (counts a.mark))
 
   -- what the device asks, in mx_fold's words, and the mark
-  abbrev device_asks : Request → Answered → ℕ × Ask
+  abbrev pub device_asks : Request → Answered → ℕ × Ask
   device_asks r a = (device, cond (is_of_device user device r.who) (asked_of site (lists_in a) r.who r.ask) Else)
 
-  abbrev all_asks : List Request → List Answered → List (ℕ × Ask)
+  abbrev pub all_asks : List Request → List Answered → List (ℕ × Ask)
   all_asks [] answers = []
   all_asks (r ∷ rs) [] = []
   all_asks (r ∷ rs) (a ∷ answers) = device_asks r a ∷ all_asks rs answers
@@ -236,7 +236,7 @@ module _ (site : Site) (all : Histories) (lawful : AreLawful all) (user : List �
     other true = tt
     other false = tt
 
-  chain_same : (f : Selection) (rs : List Request) (answers : List Answered) → AreAnswers site all rs answers → (client : Option (Client RoomView))
+  pub chain_same : (f : Selection) (rs : List Request) (answers : List Answered) → AreAnswers site all rs answers → (client : Option (Client RoomView))
       → chain w device f client (exchanges_of site user device all rs answers) ≡ chain w device f client (exchanges w all (all_asks rs answers) (marks_of rs answers))
   chain_same f [] answers h client = refl
   chain_same f (r ∷ rs) [] h client = refl
@@ -245,7 +245,7 @@ module _ (site : Site) (all : Histories) (lawful : AreLawful all) (user : List �
       ∙ ap (λ next. chain w device f (cond (nat_eq device device) next client) (exchanges w all (all_asks rs answers) (marks_of rs answers)))
       (same_effect w user f (fronts_of (lists_in a)).e (exchange_of site user device all r a).said (exchange_at w all (device_asks r a) (mark_of a)).said (one_alike r a h.0) client)
 
-  reach_same : (f : Selection) (rs : List Request) (answers : List Answered) → AreAnswers site all rs answers → (client : Option (Client RoomView))
+  pub reach_same : (f : Selection) (rs : List Request) (answers : List Answered) → AreAnswers site all rs answers → (client : Option (Client RoomView))
       → PagesReach w device f client (exchanges_of site user device all rs answers)
       → PagesReach w device f client (exchanges w all (all_asks rs answers) (marks_of rs answers))
   reach_same f [] answers h client reach = tt

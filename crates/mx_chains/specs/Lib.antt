@@ -1,3 +1,4 @@
 pub mod Chains
 pub mod Heard
+pub mod OfEngine
 pub mod Seen
