@@ -5,4 +5,5 @@ mod Readings
 mod Standing
 mod Staying
 pub mod Waited
+pub mod Watching
 pub mod OfEngine

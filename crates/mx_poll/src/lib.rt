@@ -4,7 +4,8 @@
 //! The call is `answer`: what is asked is answered as the engine answers it, on the stores that the mark counts. A
 //! sync with `since` and without `full_state` that has nothing to tell rests among the engine's waiters, and looks
 //! again when something was stored; it tells that there is nothing only once a reading of the clock has come to its
-//! deadline. Any other request is answered at the reading of the request.
+//! deadline. Any other request is answered at the reading of the request. At each wake, and at least each second, the
+//! sink of who asks is asked whether it has gone away: then the sync is answered at once, and [`Outcome`] says so.
 //!
 //! Such a sync is a plain state, a [`SyncPoll`], that `begin` makes and `poll` asks: `answer` drives it in the
 //! caller's thread, and one thread may hold many. Before `poll` says that there is nothing yet, it has parked a waker
@@ -27,4 +28,4 @@ pub use answering::answer;
 pub use beginning::begin;
 pub use mx_engine::{Answered, Engine, EnginePass, Mark, Setup, engine};
 pub use polling::{look_after, poll};
-pub use states::{Begun, Parked, Polled, Seen, SyncPoll};
+pub use states::{Begun, Outcome, Parked, Polled, Seen, SyncPoll};

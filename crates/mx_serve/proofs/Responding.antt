@@ -1,8 +1,13 @@
 -- The mark and the bytes of an answer.
-use Rattle.std.proofs.Common.{◌≡◌, ℕ, inl, inr, List, Bool, true, false, cond, Ok, Err, Option, Some, None, bytes_eq, codes, refl, sym, ap, ◌∙◌, subst}
+use Rattle.std.proofs.Common.{◌≡◌, ℕ, inl, inr, List, [], Bool, true, false, cond, Ok, Err, Option, Some, None, bytes_eq, codes, refl, sym, ap, ◌∙◌, subst}
+use Rattle.std.specs.Io.KnownBytes.{Appends}
+use Rattle.std.proofs.KnownBytes.{Appends-nil}
 use Rattle.mx_core.specs.declared.history.Stored.{Stored}
 use Rattle.mx_http.specs.Answers.{response_bytes}
 use Rattle.mx_http.specs.declared.call.Call.{Call}
+use Rattle.mx_json.specs.Texts.{json_text}
+use Rattle.mx_api.specs.Errors.{refused_json, refused_status}
+use Rattle.mx_api.specs.declared.refused.Refused.{Refused}
 use Rattle.mx_render.specs.Rendered.{no_memory_text, said_status, said_text}
 use Rattle.mx_writers.specs.Decision.{Placing}
 use Rattle.mx_fold.specs.Lists.{Histories, lists_of}
@@ -40,7 +45,7 @@ blank memory now lists = record (reading now lists) { memory = memory }
 pub idle_blank : (memory : Bool) (now : ℕ) (lists : Histories) → IsIdle (blank memory now lists) (counts_of lists)
 idle_blank memory now lists = record { read = record { lane = refl; own_is = refl; unstored_is = refl; told = refl }; marker_is = refl; marker_told_is = refl; same = refl }
 
-same_response : (status_a status_b : ℕ) (text_a text_b : List ℕ) → status_a ≡ status_b → text_a ≡ text_b → response status_a text_a ≡ response status_b text_b
+pub same_response : (status_a status_b : ℕ) (text_a text_b : List ℕ) → status_a ≡ status_b → text_a ≡ text_b → response status_a text_a ≡ response status_b text_b
 same_response status_a status_b text_a text_b p q = λ i. response (p i) (q i)
 
 -- a mark under which memory was wanting
@@ -113,6 +118,11 @@ module _ (site : Site) (stops : Stops) where
   pub versions_responds : (last now : ℕ) (lists : Histories) (m : Mark) (status : ℕ) (text : List ℕ) → last ≡ now → m ≡ blank false now lists → response status text ≡ asked_response site lists m call.Versions
       → Responds site stops call.Versions last lists lists m status text
   versions_responds last now lists m status text read is told = idle_responds call.Versions false last now lists m status text read is (idle_blank false now lists) told
+
+  pub refused_responds : (r : Refused) (last now : ℕ) (lists : Histories) (m : Mark) (status : ℕ) (text : List ℕ) → last ≡ now → m ≡ blank false now lists → status ≡ refused_status r → text ≡ json_text (refused_json r)
+      → Responds site stops (call.Refused r) last lists lists m status text
+  refused_responds r last now lists m status text read is st tx =
+      idle_responds (call.Refused r) false last now lists m status text read is (idle_blank false now lists) (same_response status (refused_status r) text (json_text (refused_json r)) st tx)
 
   blank_kept : (asks : CallAsked) (now : ℕ) (lists : Histories) → KeepsCall site stops asks (blank true now lists) (counts_of lists) lists lists
   blank_kept call.Options now lists = idle_blank true now lists
@@ -188,3 +198,8 @@ module _ (site : Site) (stops : Stops) where
   written limit earlier c now old new m status text from to (step.Last n end.ReadFault) r w = absurd w
   written limit earlier c now old new m status text from to (step.Last n (end.Memory _)) r w = absurd w
   written limit earlier c now old new m status text from to (step.Ended e) r w = absurd w
+
+  -- nothing of the answer is written
+  pub unwritten : (limit earlier : ℕ) (c : Call) (now : ℕ) (old new : Histories) (m : Mark) (status : ℕ) (text : List ℕ) (from to : Option (List ℕ)) → to ≡ from → Responds site stops (call_asked site.users c) now old new m status text
+      → Answers site stops limit earlier c now old new from to (step.Last m end.WriteFault)
+  unwritten limit earlier c now old new m status text from to same r = (_, reply_bytes limit earlier c now old new m status text r, (0, subst (λ w. Appends from w []) (sym same) (Appends-nil from)))

@@ -8,7 +8,7 @@ use crate::rooms::{create, one_writer, user};
 use mx_ask::{Ask, FilterAsk, Said, Who};
 use mx_engine::{Engine, EnginePass};
 use mx_ids::{SyncToken, read_sync_token};
-use mx_outside::{Clock, StepClock};
+use mx_outside::{Clock, MemSink, StepClock};
 use mx_poll::answer;
 use mx_writers::Open;
 use std::alloc::Global;
@@ -62,9 +62,22 @@ fn told_at(
 {
     let mut clock = StepClock::new(1000, 10);
     let now = clock.now();
-    let answered = answer(rt, alloc, engine, pass, who, ask, now, &mut clock);
+    let mut output = MemSink::new(alloc, Vec::new(alloc));
+    let outcome = answer(
+        rt,
+        alloc,
+        engine,
+        pass,
+        who,
+        ask,
+        now,
+        &mut clock,
+        &mut output,
+    );
+    let answered = &outcome.answered;
     let told = (answered.mark.now, token_of_nothing(&answered.said));
-    drop(answered);
+    drop(outcome);
+    drop(output);
     told
 }
 

@@ -146,6 +146,10 @@ impl Sink for TurnSink {
         }
         Put::Done
     }
+
+    fn is_gone(&mut self) -> bool {
+        false
+    }
 }
 
 /// A gate that holds one block of a writer: that is a step, and it waits for a number of them.

@@ -116,3 +116,26 @@ fn a_room_is_created_by_at_most_256_events(rt: HostRuntime) -> Result<(), Fail> 
     holds(&rt, alloc, table.as_str())?;
     Ok(())
 }
+
+/// A block of 256 events, and a sync since the position behind it.
+fn one_block(alloc: Global) -> Result<String, Memory> {
+    let mut table = String::new(alloc);
+    push_creation(
+        alloc,
+        &mut table,
+        250,
+        "200 {\"room_id\":\"!0-1:example.org\"}",
+    )?;
+    table.push_str(
+        "GET /sync?since=s257_0_0_0_0 tok_a1\n400 {\"errcode\":\"M_INVALID_PARAM\",\"error\":\"token ahead: 257 > 256\"}\n",
+    )?;
+    Ok(table)
+}
+
+#[test]
+fn a_block_of_256_events_moves_the_front_at_once(rt: HostRuntime) -> Result<(), Fail> {
+    let alloc = rt.alloc();
+    let table = one_block(alloc)?;
+    holds(&rt, alloc, table.as_str())?;
+    Ok(())
+}

@@ -47,4 +47,8 @@ impl Sink for WholeSink {
         self.whole.fetch_add(more, Ordering::SeqCst);
         Put::Done
     }
+
+    fn is_gone(&mut self) -> bool {
+        false
+    }
 }

@@ -1,7 +1,8 @@
-use Rattle.std.proofs.Common.{ap, ◌∙◌}
+use Rattle.std.proofs.Common.{◌≡◌, ap, true, ◌∙◌}
 use Rattle.mx_http.specs.Answers.{body_text}
 use Rattle.mx_http.specs.declared.answer.Answer.{Answer}
 use Rattle.mx_poll.specs.OfEngine.Shown.{stores_of, site_of, stops_of}
+use Rattle.mx_poll.proofs.Watching.{watched_none}
 use Rattle.mx_serve.specs.Asked.{call_asked}
 use Rattle.mx_serve.specs.Tallies.{tally}
 use Rattle.mx_serve.proofs.Responding.{wanting_responds}
@@ -16,5 +17,8 @@ returns-in-Err-clause-responds g c =
 
 pub returns-in-Err-clause-tallies : goal.returns-in-Err-clause-tallies
 returns-in-Err-clause-tallies g c =
-    wanting_tallied (site_of c.args.server.now.engine) (stores_of c.args.pass.now) (call_asked c.args.server.now.engine.site.users c.args.call.now) c.args.now
+    wanting_tallied (c.idle.result.gone ≡ true) (site_of c.args.server.now.engine) (stores_of c.args.pass.now) (call_asked c.args.server.now.engine.site.users c.args.call.now) c.args.now
     (tally c.args.pass.now (g.C.Clock.readings c.args.clock.now)) c.idle.result.mark c.idle.ensures.mark
+
+pub returns-in-Err-clause-output : goal.returns-in-Err-clause-output
+returns-in-Err-clause-output g c = watched_none c.idle.result.gone (g.K.Sink.written c.args.output.now) (g.K.Sink.faults c.args.output.now) c.idle.ensures.stays
