@@ -1,0 +1,4 @@
+mod Counting
+mod Joining
+mod Keeping
+mod Restarting

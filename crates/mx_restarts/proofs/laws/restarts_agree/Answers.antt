@@ -1,0 +1,5 @@
+use Rattle.mx_restarts.proofs.Restarting as law
+use Rattle.mx_restarts.proofs.laws.restarts_agree.Goals as goal
+
+pub returns : goal.returns
+returns c = law.restarts_agree
