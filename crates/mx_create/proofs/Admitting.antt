@@ -8,6 +8,7 @@ use Rattle.mx_json.specs.Fields.{text_at}
 use Rattle.mx_json.specs.declared.value.Json.{Json}
 use Rattle.mx_json.specs.declared.value.Json.TheVariants as json
 use Rattle.mx_room.specs.Creating.{IsNew}
+use Rattle.mx_core.specs.Limits.{most_drawn}
 use Rattle.mx_create.specs.Admitted.{IsBlock, IsUnplaced, admitted_block, first_denied, fits_its_server, judged, made, unless_denied}
 use Rattle.mx_create.specs.Blocks.{Creating, draft, drafts_of, first_drafts, initial, invitation, named, rules}
 use Rattle.mx_create.specs.Bodies.{invited, listed}
@@ -62,7 +63,7 @@ some_new : (by : Creating) (preset : Preset) (ask : Json) → 0 < length (drafts
 unfolding drafts_of
 some_new by preset ask = omega (arith, first_count by preset ask, length-append {A = Draft})
 
-pub is_block : (by : Creating) (preset : Preset) (ask : Json) (drafts : List Draft) → drafts ≡ drafts_of by preset ask → length (drafts_of by preset ask) ≤ 256 → IsBlock drafts
+pub is_block : (by : Creating) (preset : Preset) (ask : Json) (drafts : List Draft) → drafts ≡ drafts_of by preset ask → length (drafts_of by preset ask) ≤ most_drawn → IsBlock drafts
 is_block by preset ask drafts is few =
     subst IsBlock (sym is) (record { some = some_new by preset ask; most = few; new = all_new by preset ask })
 

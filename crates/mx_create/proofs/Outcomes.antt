@@ -5,6 +5,7 @@ use Rattle.mx_event.specs.declared.draft.Draft.{Draft}
 use Rattle.mx_ids.specs.declared.users.Users.{Users}
 use Rattle.mx_json.specs.Fields.{field}
 use Rattle.mx_json.specs.declared.value.Json.{Json}
+use Rattle.mx_core.specs.Limits.{most_drawn}
 use Rattle.mx_create.specs.Blocks.{Creating, are_known, block_of, drafts_of, is_eleven, with_preset}
 use Rattle.mx_create.specs.Presets.{preset_of}
 use Rattle.mx_create.specs.declared.fault.CreateFault.TheVariants as faults
@@ -33,10 +34,10 @@ module _ (by : Creating) (users : Users) (ask : Json) where
     pub no_user : Version true → preset_of ask ≡ Some preset → are_known users ask ≡ false → block_of by users ask ≡ Err faults.NoUser
     no_user e is known = judged (Some preset) e is ∙ cond-false _ _ _ known
 
-    pub too_many : Version true → preset_of ask ≡ Some preset → are_known users ask ≡ true → 256 < length (drafts_of by preset ask) → block_of by users ask ≡ Err faults.TooMany
-    too_many e is known many = judged (Some preset) e is ∙ cond-true _ _ _ known ∙ cond-true _ _ _ (lt-ltb 256 (length (drafts_of by preset ask)) many)
+    pub too_many : Version true → preset_of ask ≡ Some preset → are_known users ask ≡ true → most_drawn < length (drafts_of by preset ask) → block_of by users ask ≡ Err faults.TooMany
+    too_many e is known many = judged (Some preset) e is ∙ cond-true _ _ _ known ∙ cond-true _ _ _ (lt-ltb most_drawn (length (drafts_of by preset ask)) many)
 
-    pub found : (drafts : List Draft) → Version true → preset_of ask ≡ Some preset → are_known users ask ≡ true → length (drafts_of by preset ask) ≤ 256
+    pub found : (drafts : List Draft) → Version true → preset_of ask ≡ Some preset → are_known users ask ≡ true → length (drafts_of by preset ask) ≤ most_drawn
         → drafts ≡ drafts_of by preset ask → block_of by users ask ≡ Ok drafts
     found drafts e is known few all =
-        judged (Some preset) e is ∙ cond-true _ _ _ known ∙ cond-false _ _ _ (le-ltb 256 (length (drafts_of by preset ask)) few) ∙ ap Ok (sym all)
+        judged (Some preset) e is ∙ cond-true _ _ _ known ∙ cond-false _ _ _ (le-ltb most_drawn (length (drafts_of by preset ask)) few) ∙ ap Ok (sym all)

@@ -3,6 +3,7 @@ use Rattle.std.proofs.Common.{◌≡◌, ◌==◌, true, List, [], ◌∷◌, le
 use Rattle.std.specs.List.{AllByRecursion, list_all}
 use Rattle.std.proofs.lemmas.Bool.{and_parts, and_from, eqb-true, ltb-true, leb-true, lt-ltb, le-leb}
 use Rattle.mx_event.specs.declared.draft.Draft.{Draft}
+use Rattle.mx_core.specs.Limits.{most_drawn}
 use Rattle.mx_create.specs.Admitted.{IsBlock, IsUnplaced, is_block, is_unplaced}
 
 none_from : {A : Type 0} (o : Option A) → is_none o ≡ true → o ≡ None
@@ -25,8 +26,8 @@ all_unplaced (d ∷ ds) h = let p = and_parts (is_unplaced d) (list_all is_unpla
 pub block_from : (drafts : List Draft) → is_block drafts ≡ true → IsBlock drafts
 block_from drafts h =
     let some = and_parts (nat_lt 0 (length drafts)) _ h in
-    let most = and_parts (nat_le (length drafts) 256) _ some.1 in
-    record { some = ltb-true 0 (length drafts) some.0; most = leb-true (length drafts) 256 most.0; new = all_unplaced drafts most.1 }
+    let most = and_parts (nat_le (length drafts) most_drawn) _ some.1 in
+    record { some = ltb-true 0 (length drafts) some.0; most = leb-true (length drafts) most_drawn most.0; new = all_unplaced drafts most.1 }
 
 unplaced_test : (d : Draft) → IsUnplaced d → is_unplaced d ≡ true
 unplaced_test d h =
@@ -40,4 +41,4 @@ test_all (d ∷ ds) h = and_from (is_unplaced d) (list_all is_unplaced ds) (unpl
 pub block_test : (drafts : List Draft) → IsBlock drafts → is_block drafts ≡ true
 block_test drafts h =
     and_from (nat_lt 0 (length drafts)) _ (lt-ltb 0 (length drafts) h.some)
-    (and_from (nat_le (length drafts) 256) _ (le-leb (length drafts) 256 h.most) (test_all drafts h.new))
+    (and_from (nat_le (length drafts) most_drawn) _ (le-leb (length drafts) most_drawn h.most) (test_all drafts h.new))

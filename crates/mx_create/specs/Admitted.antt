@@ -8,6 +8,7 @@ use Rattle.mx_event.specs.Drafts.{drafted}
 use Rattle.mx_event.specs.Forms.{fits}
 use Rattle.mx_event.specs.declared.draft.Draft.{Draft}
 use Rattle.mx_event.specs.declared.event.Event.{Event}
+use Rattle.mx_core.specs.Limits.{most_drawn}
 use Rattle.mx_create.specs.declared.fault.CreateFault.{CreateFault}
 use Rattle.mx_create.specs.declared.fault.CreateFault.TheVariants as faults
 
@@ -17,10 +18,10 @@ pub record IsUnplaced (d : Draft) : Type 0 where
   pub room : d.room ≡ record { writer = 0; at = 0 }
   pub txn : d.txn ≡ None
 
--- the drafts of a block that creates a room: 1 to 256
+-- the drafts of a block that creates a room: 1 to 512
 pub record IsBlock (drafts : List Draft) : Type 0 where
   pub some : 0 < length drafts
-  pub most : length drafts ≤ 256
+  pub most : length drafts ≤ most_drawn
   pub new : AllByRecursion IsUnplaced drafts
 
 -- the same as tests
@@ -28,7 +29,7 @@ abbrev pub is_unplaced : Draft → Bool
 is_unplaced d = is_some d.state_key && ((d.room.writer == 0) && ((d.room.at == 0) && is_none d.txn))
 
 abbrev pub is_block : List Draft → Bool
-is_block drafts = nat_lt 0 (length drafts) && (nat_le (length drafts) 256 && list_all is_unplaced drafts)
+is_block drafts = nat_lt 0 (length drafts) && (nat_le (length drafts) most_drawn && list_all is_unplaced drafts)
 
 -- the event that a draft makes in a new room of a writer
 abbrev pub made : ℕ → Draft → Event

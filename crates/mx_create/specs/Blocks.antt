@@ -10,6 +10,7 @@ use Rattle.mx_json.specs.declared.value.Json.TheVariants as json
 use Rattle.mx_event.specs.Kinds.{create_type, member_type, power_type, join_rules_type, visibility_type, is_text}
 use Rattle.mx_event.specs.State.{membership_in}
 use Rattle.mx_event.specs.declared.draft.Draft.{Draft}
+use Rattle.mx_core.specs.Limits.{most_drawn}
 use Rattle.mx_create.specs.Bodies.{listed, invited}
 use Rattle.mx_create.specs.Contents.{single, create_content, membership_content, power_content, invite_content}
 use Rattle.mx_create.specs.Presets.{preset_of, join_rule_of, history_visibility_of, guest_access_of}
@@ -98,7 +99,7 @@ unfoldable pub are_known : Users → Json → Bool
 are_known users ask = list_all (is_known users) (invited ask) && list_all (invites_known users) (listed (codes "initial_state") ask)
 
 abbrev pub within_block : List Draft → Result (List Draft) CreateFault
-within_block drafts = if nat_lt 256 (length drafts) then Err faults.TooMany else Ok drafts
+within_block drafts = if nat_lt most_drawn (length drafts) then Err faults.TooMany else Ok drafts
 
 abbrev pub with_preset : Creating → Users → Json → Option Preset → Result (List Draft) CreateFault
 with_preset by users ask None = Err faults.Preset

@@ -2,6 +2,7 @@
 ghost use Rattle.std.specs.Prelude.{◌≡◌, ◌⊎◌, ◌≤◌, [], Ok, Err, IfOk, IfErr, OnOk, length, map};
 ghost use Rattle.std.specs.List.{list_all};
 ghost use Rattle.mx_room.specs.Books.{SameRooms};
+ghost use Rattle.mx_core.specs.Limits.{most_drawn};
 ghost use Rattle.mx_create.specs.Admitted.{IsBlock, admitted_block, first_denied, fits_its_server, judged, made};
 ghost use Rattle.mx_ids.specs.Memory.{refused_memory};
 ghost use Rattle.mx_create.specs.declared.fault.CreateFault.TheVariants as faults;
@@ -14,7 +15,7 @@ use mx_ids::{Memory, RoomId, Seq};
 use mx_room::RoomBook;
 use std::alloc::Global;
 
-/// The events that a block of drafts puts into a new room of the book's writer, 1 to 256, in their order and without
+/// The events that a block of drafts puts into a new room of the book's writer, 1 to 512, in their order and without
 /// positions yet. They are then ready in the book: `RoomBook::take_in` creates the room.
 ///
 /// The first fault that holds is given: `TooLarge` where one of the events is larger than 65,536 bytes; `State` where one
@@ -28,7 +29,7 @@ pub fn admit_block(
 ) -> Result<Prepared<Event>, CreateFault>
     requires block { IsBlock drafts }
     ensures found { IfOk result (λ p. admitted_block book.old.writer drafts ≡ Ok p.items) }
-    ensures count { IfOk result (λ p. (1 ≤ length p.items) × (length p.items ≤ 256)) }
+    ensures count { IfOk result (λ p. (1 ≤ length p.items) × (length p.items ≤ most_drawn)) }
     ensures refused { IfErr result (λ f. (f ≡ faults.Memory refused_memory) ⊎ (admitted_block book.old.writer drafts ≡ Err f)) }
     ensures same { SameRooms book.old book.new }
     ensures pending { IfOk result (λ p. book.new.pending ≡ p.items) }

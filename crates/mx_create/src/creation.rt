@@ -28,7 +28,7 @@ use mx_json::Json;
 use std::alloc::Global;
 
 /// The most events that a block has.
-const MOST_EVENTS: usize = 256;
+const MOST_EVENTS: usize = 512;
 
 /// Who creates a room, and when, in milliseconds since 1970.
 #[derive(Clone, Copy)]
@@ -44,10 +44,10 @@ struct Creator<'a> {
 ///
 /// The first fault that holds is given: `Version` where `room_version` is there and isn't `"11"`;
 /// `Preset` where `preset` is there and names none; `NoUser` where `invite` or a member event of
-/// `initial_state` invites one who isn't among the users; `TooMany` where there are more than 256
+/// `initial_state` invites one who isn't among the users; `TooMany` where there are more than 512
 /// events. `Memory` is want of memory, and may come in place of any answer.
 ///
-/// The events are 1 to 256 state events of a room without a writer and a position yet, as `admit_block` wants them.
+/// The events are 1 to 512 state events of a room without a writer and a position yet, as `admit_block` wants them.
 pub fn block(
     alloc: Global,
     ask: &Json,

@@ -16,8 +16,8 @@ pub enum CreateFault {
     /// An invited user isn't one of the server's.
     #[error("an invited user isn't known")]
     NoUser,
-    /// The block would have more than 256 events.
-    #[error("more than 256 events")]
+    /// The block would have more than 512 events.
+    #[error("more than 512 events")]
     TooMany,
     /// An event is larger than 65,536 bytes.
     #[error("an event is too large")]

@@ -217,17 +217,17 @@ fn each_fault_has_its_cause(rt: HostRuntime) {
     );
 }
 
-/// How many events a body gives that asks for 250 state events and ends in `rest`.
+/// How many events a body gives that asks for 506 state events and ends in `rest`.
 fn count(rt: &impl Abort, alloc: Global, rest: &str) -> Result<usize, CreateFault> {
     let start = r#"{"initial_state":[{"content":{},"type":"a"}"#;
-    let body = repeated(rt, alloc, start, r#",{"content":{},"type":"a"}"#, 249, rest);
+    let body = repeated(rt, alloc, start, r#",{"content":{},"type":"a"}"#, 505, rest);
     Ok(create(rt, alloc, body.as_str())?.len())
 }
 
 #[test]
-fn a_block_has_at_most_256_events(rt: HostRuntime) {
+fn a_block_has_at_most_512_events(rt: HostRuntime) {
     let alloc = rt.alloc();
-    assert_eq!(rt; count(&rt, alloc, "]}"), Ok(256));
+    assert_eq!(rt; count(&rt, alloc, "]}"), Ok(512));
     let over = count(&rt, alloc, r#"],"name":"N"}"#);
     assert_eq!(rt; over, Err(CreateFault::TooMany));
     let unknown = count(&rt, alloc, r#"],"invite":["@carol:x"]}"#);

@@ -325,18 +325,18 @@ fn a_glance_sees_what_was_stored(rt: HostRuntime) {
     assert_eq!(rt; seen, (0, 1, 1));
 }
 
-/// A block of 256 numbers, from 0 on.
+/// A block of 512 numbers, from 0 on.
 fn numbers(alloc: Global) -> Result<Seq<Number>, Memory>
-    ensures { IfOk result (λ items. length items ≡ 256) }
+    ensures { IfOk result (λ items. length items ≡ 512) }
 {
     let mut items = Seq::new(alloc);
-    'values: for value in 0..256u64 {
+    'values: for value in 0..512u64 {
         items.push(Number { value })?;
     }
     Ok(items)
 }
 
-/// Stores some blocks of 256 numbers, and looks at all items.
+/// Stores some blocks of 512 numbers, and looks at all items.
 fn after_blocks<R: Wait + Abort>(
     rt: &R,
     alloc: Global,
@@ -353,8 +353,8 @@ fn after_blocks<R: Wait + Abort>(
     ensures pass { place_of_pass pass.new ≡ place_of_pass pass.old }
 {
     'stores: for _ in 0..blocks {
-        stream.reserve(rt, pen, 256).expect(rt, "memory");
-        let drawn = stream.draw(pen, 256).expect(rt, "space");
+        stream.reserve(rt, pen, 512).expect(rt, "memory");
+        let drawn = stream.draw(pen, 512).expect(rt, "space");
         let items = numbers(alloc).expect(rt, "memory");
         stream.finish(rt, pen, drawn, items);
     }
@@ -368,18 +368,18 @@ fn value_at(parts: &Parts<Number>, position: u64) -> Option<u64> {
 #[test]
 fn later_parts_share_the_segments_of_earlier_ones(rt: HostRuntime) {
     let alloc = rt.alloc();
-    let (stream, pens, mut pass) = stream::<Number>(alloc, 3, 2000).expect(&rt, "memory");
+    let (stream, pens, mut pass) = stream::<Number>(alloc, 3, 3000).expect(&rt, "memory");
     let mut first = first_pen(&stream, pens);
     let before = after_blocks(&rt, alloc, &stream, &mut first, &mut pass, 3);
     let after = after_blocks(&rt, alloc, &stream, &mut first, &mut pass, 2);
-    assert_eq!(rt; (before.front(), after.front()), (768, 1280));
+    assert_eq!(rt; (before.front(), after.front()), (1536, 2560));
     assert_eq!(rt;
-        (value_at(&before, 768), value_at(&before, 769)),
-        (Some(255), None)
+        (value_at(&before, 1536), value_at(&before, 1537)),
+        (Some(511), None)
     );
     assert_eq!(rt;
-        (value_at(&after, 1024), value_at(&after, 1025)),
-        (Some(255), Some(0))
+        (value_at(&after, 1536), value_at(&after, 1537)),
+        (Some(511), Some(0))
     );
     drop(after);
     drop(before);

@@ -1,4 +1,5 @@
 use Rattle.std.proofs.Common.{◌<◌, ◌≤◌, inr, sym, subst, ◌∙◌}
+use Rattle.mx_core.specs.Limits.{most_drawn}
 use Rattle.mx_create.specs.Blocks.{Creating}
 use Rattle.mx_create.proofs.Admitting.{is_block}
 use Rattle.mx_create.proofs.Tests.{block_test}
@@ -24,22 +25,22 @@ pub returns-then-event_count-gt-MOST_EVENTS-clause-refused : goal.returns-then-e
 returns-then-event_count-gt-MOST_EVENTS-clause-refused c =
     let by : Creating = record { creator = c.args.creator.now; ts = c.args.ts } in
     let count = c.event_count.ensures by c.in-Some.preset in
-    inr (too_many by c.args.users.now c.args.ask.now c.in-Some.preset (sym c.is_eleven.ensures ∙ c.if-not-is_eleven.false) (sym c.in-Some.ensures) (sym c.in_ok-are_known.ensures ∙ c.if-not-branch.false) (subst (λ n. 256 < n) count c.if-event_count-gt-MOST_EVENTS.true))
+    inr (too_many by c.args.users.now c.args.ask.now c.in-Some.preset (sym c.is_eleven.ensures ∙ c.if-not-is_eleven.false) (sym c.in-Some.ensures) (sym c.in_ok-are_known.ensures ∙ c.if-not-branch.false) (subst (λ n. most_drawn < n) count c.if-event_count-gt-MOST_EVENTS.true))
 
 pub returns-clause-found : goal.returns-clause-found
 returns-clause-found c =
     let by : Creating = record { creator = c.args.creator.now; ts = c.args.ts } in
     let count = c.event_count.ensures by c.in-Some.preset in
-    found by c.args.users.now c.args.ask.now c.in-Some.preset _ (sym c.is_eleven.ensures ∙ c.if-not-is_eleven.false) (sym c.in-Some.ensures) (sym c.in_ok-are_known.ensures ∙ c.if-not-branch.false) (subst (λ n. n ≤ 256) count c.if-event_count-gt-MOST_EVENTS.false) c.in_ok-drafts.ensures
+    found by c.args.users.now c.args.ask.now c.in-Some.preset _ (sym c.is_eleven.ensures ∙ c.if-not-is_eleven.false) (sym c.in-Some.ensures) (sym c.in_ok-are_known.ensures ∙ c.if-not-branch.false) (subst (λ n. n ≤ most_drawn) count c.if-event_count-gt-MOST_EVENTS.false) c.in_ok-drafts.ensures
 
 pub returns-clause-block : goal.returns-clause-block
 returns-clause-block c =
     let by : Creating = record { creator = c.args.creator.now; ts = c.args.ts } in
     let count = c.event_count.ensures by c.in-Some.preset in
-    is_block by c.in-Some.preset c.args.ask.now _ c.in_ok-drafts.ensures (subst (λ n. n ≤ 256) count c.if-event_count-gt-MOST_EVENTS.false)
+    is_block by c.in-Some.preset c.args.ask.now _ c.in_ok-drafts.ensures (subst (λ n. n ≤ most_drawn) count c.if-event_count-gt-MOST_EVENTS.false)
 
 pub returns-clause-test : goal.returns-clause-test
 returns-clause-test c =
     let by : Creating = record { creator = c.args.creator.now; ts = c.args.ts } in
     let count = c.event_count.ensures by c.in-Some.preset in
-    block_test _ (is_block by c.in-Some.preset c.args.ask.now _ c.in_ok-drafts.ensures (subst (λ n. n ≤ 256) count c.if-event_count-gt-MOST_EVENTS.false))
+    block_test _ (is_block by c.in-Some.preset c.args.ask.now _ c.in_ok-drafts.ensures (subst (λ n. n ≤ most_drawn) count c.if-event_count-gt-MOST_EVENTS.false))
