@@ -20,7 +20,7 @@ start_program() {
     exec {errors}< <(exec "$1" --users "$folder/users" --mode serve --listen "127.0.0.1:$port" "${@:2}" 2>&1 > /dev/null < /dev/null)
     started="$started $!"
     read -r -t 10 line <&"$errors" || true
-    if [ "$line" != "mxsync: listening on 127.0.0.1:$port" ]; then
+    if [[ "$line" != "mxsync: listening on 127.0.0.1:$port"* ]]; then
         echo "the program didn't listen: ${line:-nothing said}"
         exit 1
     fi

@@ -239,6 +239,7 @@ fn sync_from<R: Wait>(
         since: Some(since),
         filter: FilterAsk::Absent,
         full_state: false,
+        after: false,
         timeout: 1000,
     };
     match begin(rt, alloc, engine, pass, who, ask, NOW) {

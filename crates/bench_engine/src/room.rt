@@ -320,6 +320,7 @@ fn sync<R: Wait>(
         since,
         filter: FilterAsk::Absent,
         full_state: false,
+        after: false,
         timeout: 0,
     };
     match ask_engine(rt, alloc, engine, pass, who, ask) {

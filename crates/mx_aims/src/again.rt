@@ -12,7 +12,7 @@ use mx_event::Draft;
 use mx_ids::{RoomId, Seq};
 
 /// The most events that a room is created with.
-const MOST_EVENTS: usize = 256;
+const MOST_EVENTS: usize = 512;
 
 /// What the drafts of one store's events ask: one event of a room, or a room with its first events, which have no position of their
 /// room. `None` where they are none of both.

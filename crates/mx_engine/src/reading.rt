@@ -10,10 +10,10 @@ ghost use Rattle.mx_ask.specs.declared.said.Said.{Said};
 
 use crate::answered::{Answered, Counts, Mark};
 use crate::held::{Engine, EnginePass};
+use crate::outside::Outside;
 use crate::taking::{take_accounts, take_events, take_receipts};
 use mx_ask::{Refusal, Said};
 use mx_ids::Memory;
-use mx_writers::Gate;
 use std::alloc::Global;
 use std::sync::Wait;
 
@@ -89,7 +89,7 @@ impl EnginePass {
     }
 }
 
-impl<G: Gate + Drop> Engine<G> {
+impl<G: Outside> Engine<G> {
     /// A look at each stream that answers no items. Waits for nobody and takes no memory.
     pub(crate) fn glance(&self, pass: &mut EnginePass)
         requires ties { Ties self.now pass.old }

@@ -56,7 +56,7 @@ pub record KeepsSpace {I : Type 0} (v v' : View I) : Type 0 where
   pub fresh : v'.fresh ≡ v.fresh
 
 -- a look: what the pass had seen begins what it has then seen, each store of a writer below the number that it knows, and no more than
--- 4,096 positions that it has read of are wanting
+-- 8,192 positions that it has read of are wanting
 pub record Looks {I : Type 0} (law : Law I) (v v' : View I) : Type 0 where
   pub begins : Begins v.seen v'.seen
   pub looks : v'.looks ≡ v.looks + 1

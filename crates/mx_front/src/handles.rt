@@ -16,7 +16,7 @@ use mx_core::Placed;
 pub struct Drawn {
     /// The first position, at least 1.
     pub first: u64,
-    /// The number of positions, 1 to 256.
+    /// The number of positions, 1 to 512.
     pub count: u16,
 }
 

@@ -17,7 +17,7 @@ use std::sync::Wait;
 
 impl<I: Placed + Drop> Stream<I> {
     /// The items up to the front of some stores, which all that the pass had seen begins, and which have at least as
-    /// many items as each value of `next` that the pass has kept, less 4,096: so far is it told which moment they are of.
+    /// many items as each value of `next` that the pass has kept, less 8,192: so far is it told which moment they are of.
     /// The pass has then seen just these, all by writers below the number that it knows, and its number of looks rises
     /// by one, also where the answer is `Memory`. Waits for its turn at the stream. `Memory` where the allocator refuses
     /// the list, or a place for an item.

@@ -18,7 +18,7 @@ use std::sync::Wait;
 const AHEAD: u16 = 64;
 
 impl<I: Placed + Drop> Stream<I> {
-    /// Draws the next `n` positions, 1 to 256, for a pen of this stream that holds no block and has space for them.
+    /// Draws the next `n` positions, 1 to 512, for a pen of this stream that holds no block and has space for them.
     /// Waits for nobody and takes no memory: one load and one `fetch_add`. The block lies after all stores of the pen's
     /// writer, and its last position is below 2^48. `Full` exactly where the number of positions that were drawn was
     /// read at the stream's stop or past it by this call; then nothing is drawn.

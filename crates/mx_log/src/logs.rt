@@ -1,6 +1,6 @@
 //! Logs that are opened by name.
 
-ghost use Rattle.std.specs.Prelude.{◌≡◌, ℕ, ◌<◌, ◌≤◌, List, Option, IfOk, IsErrOf};
+ghost use Rattle.std.specs.Prelude.{◌≡◌, ℕ, ◌<◌, ◌≤◌, List, Option, IfErr, IfOk};
 ghost use Rattle.mx_outside.specs.Causes.{Rose};
 ghost use Rattle.mx_log.specs.Logs.{Opens};
 
@@ -11,7 +11,7 @@ use crate::log::LogFile;
 pub enum OpenFault {
     /// Another process has it open.
     Busy,
-    /// The system failed, and the count of faults rose.
+    /// The system failed.
     Failed,
 }
 
@@ -27,11 +27,11 @@ pub trait Logs {
     ghost faults: { Self → ℕ };
 
     /// Opens a log, which is made where it is missing: its bytes are settled, and none of them is read yet. Nobody else opens it before it is
-    /// dropped. `Failed` comes only where the count of faults rose in this call, or stands at its last value.
+    /// dropped. A fault comes only where the count of faults rose in this call, or stands at its last value.
     fn open(&mut self, name: &str) -> Result<Self::File, OpenFault>
         ensures opened { IfOk result (λ log. Opens (told self.old name.now) (Self.File.told log) (Self.File.left log)) }
         ensures count { faults self.old ≤ faults self.new }
-        ensures cause { IsErrOf result OpenFault.Failed → Rose (faults self.old) (faults self.new) };
+        ensures cause { IfErr result (λ _. Rose (faults self.old) (faults self.new)) };
 
     /// Closes a log that was opened here. Where its own count of faults isn't 0 the count of faults rises, or stands at its last value.
     fn close(&mut self, log: Self::File)

@@ -5,6 +5,7 @@ use Rattle.mx_ids.specs.Memory.{refused_memory}
 use Rattle.mx_ids.specs.declared.sync_token.SyncToken.{SyncToken}
 use Rattle.mx_fold.specs.Lists.{Grows, Histories, Lists, fronts_of, lists_of}
 use Rattle.mx_writers.specs.declared.gate.Gate.{Ghosts}
+use Rattle.mx_engine.specs.Outer.{EntryFolds, EntryPlacing, EventFolds, EventPlacing, ReceiptFolds, ReceiptPlacing}
 use Rattle.mx_ask.specs.declared.ask.FilterAsk.{FilterAsk}
 use Rattle.mx_ask.specs.declared.ask.Who.{Who}
 use Rattle.mx_ask.specs.declared.said.Said.{Said}
@@ -71,7 +72,7 @@ module _ (p : SyncPoll) (now : ℕ) (seen : Seen) (pass : EnginePass) (known : k
     due true is h = absurd cc
     due false is h = omega (arith, ltb-false now p.deadline is)
 
-module _ {G : Type 0} {g : Ghosts G} (e : Engine G g) where
+module _ {G Ev Re Ac : Type 0} {g : Ghosts G} {fe : EventFolds Ev} {pe : EventPlacing} {fr : ReceiptFolds Re} {pr : ReceiptPlacing} {fa : EntryFolds Ac} {pa : EntryPlacing} (e : Engine G Ev Re Ac g fe pe fr pr fa pa) where
   looked : (old new : EnginePass) → Ties e new → Grows (stores_of old) (stores_of new) → made_of new ≡ made_of old → HasLooked old new → HasLookedOn e old new
   looked old new ties grows made looks = record { ties = ties; grows = grows; made = made; looks = looks }
 
@@ -94,11 +95,11 @@ module _ {G : Type 0} {g : Ghosts G} (e : Engine G g) where
     },
   )
 
-  module _ (now : ℕ) (who : Who) (since : SyncToken) (filter : FilterAsk) (deadline : ℕ) (old new : EnginePass) (ties : Ties e new) (grows : Grows (stores_of old) (stores_of new)) (made : made_of new ≡ made_of old)
+  module _ (now : ℕ) (who : Who) (since : SyncToken) (filter : FilterAsk) (after : Bool) (deadline : ℕ) (old new : EnginePass) (ties : Ties e new) (grows : Grows (stores_of old) (stores_of new)) (made : made_of new ≡ made_of old)
       (looks : HasLooked old new) (a : Answered)
-      (done : (stops : Stops) (start : Histories) → Grows start (stores_of new) → IsDone stops (Reads (λ l. told.sync_said l who.user (Some since) filter false)) start (stores_of new) a) where
+      (done : (stops : Stops) (start : Histories) → Grows start (stores_of new) → IsDone stops (Reads (λ l. told.sync_said l who.user (Some since) filter false after)) start (stores_of new) a) where
     -- there is something to tell
-    pub begun_done : a.mark.now ≡ now → (b : Bool) → b ≡ tells_nothing a.said → b ≡ false → IsBegunBy e now who (Some since) filter false deadline old new (begun.Done a)
+    pub begun_done : a.mark.now ≡ now → (b : Bool) → b ≡ tells_nothing a.said → b ≡ false → IsBegunBy e now who (Some since) filter false after deadline old new (begun.Done a)
     begun_done is b tests no_more = (
       record { ties = ties; done = done (stops_of e) (stores_of old) grows; made = made; looks = looks; now_is = is },
       λ may empty. not_both b no_more (tests ∙ empty),
@@ -106,13 +107,14 @@ module _ {G : Type 0} {g : Ghosts G} (e : Engine G g) where
 
     -- there is nothing
     pub begun_poll : (user : List ℕ) (at : SyncToken) → user ≡ who.user → at ≡ fronts_of (known_of new) → known_of new ≡ lists_of (stores_of new) → now < deadline → (b : Bool) → b ≡ tells_nothing a.said → b ≡ true
-        → IsBegunBy e now who (Some since) filter false deadline old new (begun.Poll (record { user = user; since = since; filter = filter; deadline = deadline; empty_at = at }))
+        → IsBegunBy e now who (Some since) filter false after deadline old new (begun.Poll (record { user = user; since = since; filter = filter; after = after; deadline = deadline; empty_at = at }))
     begun_poll user at same fronts known early b tests nothing =
         let l : Lists = lists_of (stores_of new) in
-        let p : SyncPoll = record { user = user; since = since; filter = filter; deadline = deadline; empty_at = at } in
-        let there : tells_nothing (told.sync_said l who.user (Some since) filter false) ≡ true =
-        told_empty (stops_of e) (λ k. told.sync_said k who.user (Some since) filter false) (stores_of old) (stores_of new) a (done (stops_of e) (stores_of old) grows) (sym tests ∙ nothing) in
-        let empty : tells_nothing (said_of p l) ≡ true = ap (λ u. tells_nothing (told.sync_said l u (Some since) filter false)) same ∙ there in (
+        let p : SyncPoll = record { user = user; since = since; filter = filter; after = after; deadline = deadline; empty_at = at } in
+        let there : tells_nothing (told.sync_said l who.user (Some since) filter false after) ≡ true =
+        told_empty (stops_of e) (λ k. told.sync_said k who.user (Some since) filter false after) (stores_of old) (stores_of new) a (done (stops_of e) (stores_of old) grows) (sym tests ∙ nothing) in
+        let empty : tells_nothing (said_of p l) ≡ true = ap (λ u. tells_nothing (told.sync_said l u (Some since) filter false after)) same ∙ there in (
+          refl,
           refl,
           refl,
           refl,

@@ -4,6 +4,7 @@ use Rattle.mx_core.proofs.Histories.{begins_self, begins_trans}
 use Rattle.mx_ask.specs.declared.said.Said.{Said}
 use Rattle.mx_fold.specs.Lists.{Grows, Histories, Lists}
 use Rattle.mx_writers.specs.declared.gate.Gate.{Ghosts}
+use Rattle.mx_engine.specs.Outer.{EntryFolds, EntryPlacing, EventFolds, EventPlacing, ReceiptFolds, ReceiptPlacing}
 use Rattle.mx_engine.specs.Acts.Acts.{Act, Reads}
 use Rattle.mx_engine.specs.Answers.{IsDone, Stops}
 use Rattle.mx_engine.specs.Shown.{HasLooked, IsDoneBy, KeepsAll, LooksOn, Ties, made_of, stops_of, stores_of}
@@ -43,7 +44,7 @@ kept_looks old mid new last first second on =
 pub done_on : (stops : Stops) (reads : Lists → Said) (old mid new : Histories) (a : Answered) → Grows old mid → IsDone stops (Reads reads) mid new a → IsDone stops (Reads reads) old new a
 done_on stops reads old mid new a g d = record { seen = d.seen; begins = grows_on old mid new g d.begins; said_is = d.said_is; keeps = d.keeps }
 
-module _ {G : Type 0} {g : Ghosts G} (e : Engine G g) where
+module _ {G Ev Re Ac : Type 0} {g : Ghosts G} {fe : EventFolds Ev} {pe : EventPlacing} {fr : ReceiptFolds Re} {pr : ReceiptPlacing} {fa : EntryFolds Ac} {pa : EntryPlacing} (e : Engine G Ev Re Ac g fe pe fr pr fa pa) where
   -- looks by which nothing was stored
   pub record HasWaitedOn (old new : EnginePass) : Type 0 where
     pub ties : Ties e new

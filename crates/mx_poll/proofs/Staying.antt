@@ -99,7 +99,7 @@ filter_kept t l user (asks.Inline filter) f h = h
 
 -- ---- what is told
 
-module _ (l : Lists) (user : List ℕ) (s t : SyncToken) (events : stand_from position_of 1 l.events ≡ true) (receipts : receipt.AreInPlace l.receipts)
+module _ (l : Lists) (user : List ℕ) (after : Bool) (s t : SyncToken) (events : stand_from position_of 1 l.events ≡ true) (receipts : receipt.AreInPlace l.receipts)
     (accounts : entries.AreInPlace l.accounts) (up : is_before t (fronts_of l) ≡ true) (still : is_still user l t ≡ true) where
   reach : (t.e ≤ length l.events) × (t.r ≤ length l.receipts) × (t.a ≤ length l.accounts) × (t.d ≤ 0)
   reach = before_parts t (fronts_of l) up
@@ -112,31 +112,31 @@ module _ (l : Lists) (user : List ℕ) (s t : SyncToken) (events : stand_from po
       before_from s t (subst (λ n. s.e ≤ n) (length-take-le t.e l.events reach.0) parts.0) (subst (λ n. s.r ≤ n) (length-take-le t.r l.receipts reach.1) parts.1)
       (subst (λ n. s.a ≤ n) (length-take-le t.a l.accounts reach.2) parts.2) (omega (arith, d))
 
-  by_filter : (f : Filter) → tells_nothing (sync_told (upto t l) user (sync_ask (Some s) false f)) ≡ true → tells_nothing (sync_told l user (sync_ask (Some s) false f)) ≡ true
+  by_filter : (f : Filter) → tells_nothing (sync_told (upto t l) user (sync_ask (Some s) false after f)) ≡ true → tells_nothing (sync_told l user (sync_ask (Some s) false after f)) ≡ true
   by_filter f h = by_ahead (sync.ahead_in s (fronts_of (upto t l))) refl h where
     by_ahead : (o : Option (ℕ × ℕ)) → sync.ahead_in s (fronts_of (upto t l)) ≡ o
-        → tells_nothing (unless_ahead o (said.Synced (reply_of (upto t l) user (sync_ask (Some s) false f)))) ≡ true
-        → tells_nothing (sync_told l user (sync_ask (Some s) false f)) ≡ true
+        → tells_nothing (unless_ahead o (said.Synced (reply_of (upto t l) user (sync_ask (Some s) false after f)))) ≡ true
+        → tells_nothing (sync_told l user (sync_ask (Some s) false after f)) ≡ true
     by_ahead (Some p) is h = absurd cc
     by_ahead None is h =
         let low : is_before s t ≡ true = low_by (before_fronts s (fronts_of (upto t l)) is) in
-        ap (λ o. tells_nothing (unless_ahead o (said.Synced (reply_of l user (sync_ask (Some s) false f)))))
+        ap (λ o. tells_nothing (unless_ahead o (said.Synced (reply_of l user (sync_ask (Some s) false after f)))))
         (not_before_ahead s (fronts_of l) (before_trans s t (fronts_of l) low up))
-        ∙ stays_empty l user (sync_ask (Some s) false f) s t events receipts accounts refl low up still h
+        ∙ stays_empty l user (sync_ask (Some s) false after f) s t events receipts accounts refl low up still h
 
-  by_filters : (old new : Option Filter) → ((f : Filter) → old ≡ Some f → new ≡ Some f) → tells_nothing (sync_by (upto t l) user (Some s) false old) ≡ true
-      → tells_nothing (sync_by l user (Some s) false new) ≡ true
+  by_filters : (old new : Option Filter) → ((f : Filter) → old ≡ Some f → new ≡ Some f) → tells_nothing (sync_by (upto t l) user (Some s) false after old) ≡ true
+      → tells_nothing (sync_by l user (Some s) false after new) ≡ true
   by_filters None new same h = absurd cc
-  by_filters (Some f) new same h = ap (λ o. tells_nothing (sync_by l user (Some s) false o)) (same f refl) ∙ by_filter f h
+  by_filters (Some f) new same h = ap (λ o. tells_nothing (sync_by l user (Some s) false after o)) (same f refl) ∙ by_filter f h
 
-  told_still : (filter : FilterAsk) → tells_nothing (sync_said (upto t l) user (Some s) filter false) ≡ true → tells_nothing (sync_said l user (Some s) filter false) ≡ true
+  told_still : (filter : FilterAsk) → tells_nothing (sync_said (upto t l) user (Some s) filter false after) ≡ true → tells_nothing (sync_said l user (Some s) filter false after) ≡ true
   unfolding sync_said
   told_still filter h = by_filters (filter_for (upto t l) user filter) (filter_for l user filter) (filter_kept t l user filter) h
 
 -- nothing came that concerns the user
 pub still_told : (p : SyncPoll) (l : Lists) → stand_from position_of 1 l.events ≡ true → receipt.AreInPlace l.receipts → entries.AreInPlace l.accounts
     → IsPolled p l → is_still p.user l p.empty_at ≡ true → tells_nothing (said_of p l) ≡ true
-still_told p l events receipts accounts polled still = told_still l p.user p.since p.empty_at events receipts accounts polled.up still p.filter polled.empty
+still_told p l events receipts accounts polled still = told_still l p.user p.after p.since p.empty_at events receipts accounts polled.up still p.filter polled.empty
 
 -- ---- the state
 

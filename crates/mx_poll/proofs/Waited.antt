@@ -3,6 +3,7 @@ use Rattle.std.proofs.Common.{◌≡◌, ℕ, ◌+◌, ◌≤◌, Bool, false, t
 use Rattle.mx_ask.specs.declared.said.Said.{Said}
 use Rattle.mx_fold.specs.Lists.{Lists}
 use Rattle.mx_writers.specs.declared.gate.Gate.{Ghosts}
+use Rattle.mx_engine.specs.Outer.{EntryFolds, EntryPlacing, EventFolds, EventPlacing, ReceiptFolds, ReceiptPlacing}
 use Rattle.mx_ask.specs.declared.ask.Ask.{Ask}
 use Rattle.mx_ask.specs.declared.ask.Ask.TheVariants as ask
 use Rattle.mx_ask.specs.declared.ask.Who.{Who}
@@ -18,7 +19,7 @@ use Rattle.mx_poll.specs.Waits.{HasWaited, Waits, tells_nothing}
 use Rattle.mx_poll.specs.declared.states.SyncPoll.{SyncPoll}
 use Rattle.mx_poll.proofs.Later.{done_on, looked_on}
 
-module _ {G : Type 0} {g : Ghosts G} (e : Engine G g) (who : Who) (a : Ask) (now : ℕ) where
+module _ {G Ev Re Ac : Type 0} {g : Ghosts G} {fe : EventFolds Ev} {pe : EventPlacing} {fr : ReceiptFolds Re} {pr : ReceiptPlacing} {fa : EntryFolds Ac} {pa : EntryPlacing} (e : Engine G Ev Re Ac g fe pe fr pr fa pa) (who : Who) (a : Ask) (now : ℕ) where
   module _ (old new : EnginePass) (r : Answered) (h : IsAnsweredBy e now who a old new r) where
     pub at_once_answered : IsAnswered (site_of e) (stops_of e) r.mark.now who a (stores_of old) (stores_of new) r
     at_once_answered = subst (λ n. IsAnswered (site_of e) (stops_of e) n who a (stores_of old) (stores_of new) r) (sym h.now_is) h.answered
@@ -29,11 +30,11 @@ module _ {G : Type 0} {g : Ghosts G} (e : Engine G g) (who : Who) (a : Ask) (now
     pub at_once_waited : HasWaited a now r.mark.now r.said
     at_once_waited = subst (λ n. HasWaited a now n r.said) (sym h.now_is) h.waited
 
-  module _ (old mid new : EnginePass) (p : SyncPoll) (timeout : ℕ) (is : a ≡ ask.Sync (Some p.since) p.filter false timeout) (w : IsWaiting e now who (now + timeout) old mid p)
+  module _ (old mid new : EnginePass) (p : SyncPoll) (timeout : ℕ) (is : a ≡ ask.Sync (Some p.since) p.filter false p.after timeout) (w : IsWaiting e now who (now + timeout) old mid p)
       (r : Answered) (d : IsWaitedBy e (Reads (said_of p)) mid new r) where
-    by_user : IsDone (stops_of e) (Reads (λ (l : Lists). told.sync_said l who.user (Some p.since) p.filter false)) (stores_of old) (stores_of new) r
+    by_user : IsDone (stops_of e) (Reads (λ (l : Lists). told.sync_said l who.user (Some p.since) p.filter false p.after)) (stores_of old) (stores_of new) r
     by_user =
-        subst (λ u. IsDone (stops_of e) (Reads (λ (l : Lists). told.sync_said l u (Some p.since) p.filter false)) (stores_of old) (stores_of new) r) w.user
+        subst (λ u. IsDone (stops_of e) (Reads (λ (l : Lists). told.sync_said l u (Some p.since) p.filter false p.after)) (stores_of old) (stores_of new) r) w.user
         (done_on (stops_of e) (said_of p) (stores_of old) (stores_of mid) (stores_of new) r w.looked.grows d.done)
 
     pub later_answered : IsAnswered (site_of e) (stops_of e) r.mark.now who a (stores_of old) (stores_of new) r

@@ -5,6 +5,7 @@ pub mod Engine
 pub mod EnginePass
 pub mod Exchanges
 pub mod Mark
+pub mod Outer
 pub mod Shown
 pub mod Unstored
 pub mod UnstoredVariants

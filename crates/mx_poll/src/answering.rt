@@ -14,10 +14,9 @@ use crate::beginning::begin;
 use crate::polling::poll;
 use crate::states::{Begun, Outcome, Polled, SyncPoll};
 use mx_ask::{Ask, Who};
-use mx_engine::{Answered, Engine, EnginePass};
+use mx_engine::{Answered, Engine, EnginePass, Outside};
 use mx_outside::{Clock, Sink};
 use mx_wait::{Flag, Tickets};
-use mx_writers::Gate;
 use std::alloc::Global;
 use std::rt;
 use std::sync::Wait;
@@ -36,7 +35,7 @@ const LONGEST_REST: u64 = 1000;
 /// While it waits, `output`, which is put nothing, is asked at each wake, and at least each second, whether who takes the answer has
 /// gone away. Then it is answered at once, also where there is nothing to tell: `gone` says so, and comes only where the count of the
 /// sink's faults rose. Nothing but a sync that may wait is `gone`.
-pub fn answer<G: Gate + Drop, R: Wait + rt::Clock, C: Clock, K: Sink>(
+pub fn answer<G: Outside, R: Wait + rt::Clock, C: Clock, K: Sink>(
     rt: &R,
     alloc: Global,
     engine: &Engine<G>,
@@ -72,7 +71,7 @@ pub fn answer<G: Gate + Drop, R: Wait + rt::Clock, C: Clock, K: Sink>(
 
 /// Polls a sync until it is answered, and rests in between until something was stored, its deadline has come, or who asks is to be
 /// looked after.
-fn wait<G: Gate + Drop, R: Wait + rt::Clock, C: Clock, K: Sink>(
+fn wait<G: Outside, R: Wait + rt::Clock, C: Clock, K: Sink>(
     rt: &R,
     alloc: Global,
     engine: &Engine<G>,
@@ -122,7 +121,7 @@ fn wait<G: Gate + Drop, R: Wait + rt::Clock, C: Clock, K: Sink>(
 }
 
 /// The same with a flag, and the tickets by which it was parked last.
-fn rest<G: Gate + Drop, R: Wait + rt::Clock, C: Clock, K: Sink>(
+fn rest<G: Outside, R: Wait + rt::Clock, C: Clock, K: Sink>(
     rt: &R,
     alloc: Global,
     engine: &Engine<G>,
@@ -170,7 +169,7 @@ fn rest<G: Gate + Drop, R: Wait + rt::Clock, C: Clock, K: Sink>(
 }
 
 /// The answer to a sync that waits, whether or not there is something to tell.
-fn tell<G: Gate + Drop, R: Wait>(
+fn tell<G: Outside, R: Wait>(
     rt: &R,
     alloc: Global,
     engine: &Engine<G>,
@@ -189,6 +188,7 @@ fn tell<G: Gate + Drop, R: Wait>(
             Some(waiting.since),
             &waiting.filter,
             false,
+            waiting.after,
         ),
         Err(refused) => pass.no_memory(now, refused),
     }

@@ -26,6 +26,6 @@ mod telling;
 
 pub use answering::answer;
 pub use beginning::begin;
-pub use mx_engine::{Answered, Engine, EnginePass, Mark, Setup, engine};
+pub use mx_engine::{Answered, Engine, EnginePass, Mark, Outside, Setup, engine};
 pub use polling::{look_after, poll};
 pub use states::{Begun, Outcome, Parked, Polled, Seen, SyncPoll};

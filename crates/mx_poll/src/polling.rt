@@ -11,15 +11,14 @@ ghost use Rattle.mx_engine.specs.Still.Concerns.{is_still};
 use crate::states::{Parked, Polled, Seen, SyncPoll};
 use crate::telling::tells_nothing;
 use mx_ask::Said;
-use mx_engine::{Engine, EnginePass};
+use mx_engine::{Engine, EnginePass, Outside};
 use mx_ids::Memory;
 use mx_wait::{Flag, Tickets};
-use mx_writers::Gate;
 use std::alloc::Global;
 use std::sync::Wait;
 
 /// A look at each stream after wakers were parked there. The pass is one of the engine's. Waits for turns at the streams.
-pub fn look_after<G: Gate + Drop, R: Wait>(
+pub fn look_after<G: Outside, R: Wait>(
     rt: &R,
     alloc: Global,
     engine: &Engine<G>,
@@ -47,7 +46,7 @@ pub fn look_after<G: Gate + Drop, R: Wait>(
 /// fronts seen, and twins of the flag were parked at each stream before these were read. `kept` has the tickets of an earlier call with
 /// this flag, and then those of this one. Where nothing came that concerns the user, that costs time in what came alone. The pass is one of the engine's, and has seen what
 /// the sync was seen on. Waits for turns at the streams.
-pub fn poll<G: Gate + Drop, R: Wait>(
+pub fn poll<G: Outside, R: Wait>(
     rt: &R,
     alloc: Global,
     engine: &Engine<G>,
@@ -98,6 +97,7 @@ fn judge(alloc: Global, pass: &mut EnginePass, poll: &mut SyncPoll, now: u64, se
         Some(poll.since),
         &poll.filter,
         false,
+        poll.after,
     );
     if is_pending(now, poll.deadline, &answered.said) {
         drop(answered);

@@ -7,7 +7,7 @@ use Rattle.mx_ids.specs.Memory.{refused_memory}
 use Rattle.mx_pool.specs.declared.status.Status.{Status}
 use Rattle.mx_pool.specs.declared.status.Status.TheVariants as status
 use Rattle.mx_pool.specs.Lines.{Tells, line_of, shown}
-use Rattle.mx_pool.specs.Runs.{IsPrinted, IsRan, IsRefused, IsShort, IsUnserved, RanBy, ServesAll, ServesAt, TellsAt, TellsRun, World}
+use Rattle.mx_pool.specs.Runs.{IsPrinted, IsRan, IsRefused, IsShort, IsUnserved, RanBy, ServesAll, ServesAt, TellsRun, TellsWith, World}
 use Rattle.mx_words.specs.Words.{Help, Meaning, Refused, Said, Says, Version, Wrong}
 use Rattle.mx_pool.proofs.Outcomes.{same_memory}
 
@@ -20,7 +20,7 @@ module _ (m : Meaning) (said : Said) (is : m ≡ Says said) where
   pub run_closed : {P : Type 0} (left : Option (List P)) → ServesAt said.listen left → ServesAll m left
   run_closed left h = subst (λ x. ServesAll x left) (sym is) h
 
-  pub run_told : (c : Option (Ended × EnginePass)) (old new : Option (List ℕ)) (f h : ℕ) (s : Status) → TellsAt said.listen said.users c old new f h s → TellsRun m c old new f h s
+  pub run_told : (c : Option (Ended × EnginePass)) (old new : Option (List ℕ)) (f h : ℕ) (s : Status) → TellsWith said.journal said c old new f h s → TellsRun m c old new f h s
   run_told c old new f h s t = subst (λ x. TellsRun x c old new f h s) (sym is) (inr t)
 
 -- ---- a text

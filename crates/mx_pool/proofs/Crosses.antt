@@ -11,6 +11,10 @@ use Rattle.std.specs.declared.sync.ledger.Ledger.{Ghosts as LedgerGhosts}
 use Rattle.mx_outside.specs.declared.sink.Sink.{Ghosts as SinkGhosts}
 use Rattle.mx_outside.specs.declared.source.Source.{Ghosts as SourceGhosts}
 use Rattle.mx_writers.specs.declared.gate.Gate.{Ghosts as GateGhosts}
+use Rattle.mx_event.specs.contracts.placed.EventPlaced.TheImpl as event_placed
+use Rattle.mx_receipt.specs.contracts.receipt.ReceiptPlaced.TheImpl as receipt_placed
+use Rattle.mx_account.specs.contracts.entry.EntryPlaced.TheImpl as entry_placed
+use Rattle.mx_serve.specs.OfEngine.Outer.{EntryFolds, EventFolds, ReceiptFolds}
 use Rattle.mx_serve.proofs.OfEngine.Crosses.{pass_send}
 use Rattle.mx_serve.proofs.Crosses.{server_send, server_sync}
 use Rattle.mx_pool.specs.contracts.connection.Connection as Connection
@@ -30,16 +34,23 @@ module _ (N : RattleType) (seating : SeatingGhosts N.Denot) (ledger : LedgerGhos
   free_send : IsSend (Free.the_row N seating ledger)
   free_send = declared_send (Free.the_type N seating ledger) (Vec-send (Seated.the_row N seating ledger) seated_send, (search (taken_send, sendable) depth 9, tt))
 
-  module _ (G : RattleType) (gate : GateGhosts G.Denot) where
-    pool_send : IsSend G → IsSend (Pool.the_row N G seating gate ledger)
-    pool_send g = declared_send (Pool.the_type N G seating gate ledger) (server_send G gate g, (mutex.the_send (Free.the_row N seating ledger) free_send, (condvar.the_send, tt)))
+  module _ (G Ev Re Ac : RattleType) (gate : GateGhosts G.Denot) (fe : EventFolds Ev.Denot) (fr : ReceiptFolds Re.Denot) (fa : EntryFolds Ac.Denot) where
+    abbrev pool_row : RattleType
+    pool_row = Pool.the_row N G Ev Re Ac seating gate fe event_placed.ghosts fr receipt_placed.ghosts fa entry_placed.ghosts ledger
 
-    pool_sync : IsSync G → IsSync (Pool.the_row N G seating gate ledger)
-    pool_sync y = declared_sync (Pool.the_type N G seating gate ledger) (server_sync G gate y, (mutex.the_sync (Free.the_row N seating ledger) free_send, (condvar.the_sync, tt)))
+    pool_send : IsSend G → IsSend Ev → IsSend Re → IsSend Ac → IsSend pool_row
+    pool_send g events receipts accounts = declared_send (Pool.the_type N G Ev Re Ac seating gate fe event_placed.ghosts fr receipt_placed.ghosts fa entry_placed.ghosts ledger)
+        (server_send G Ev Re Ac gate fe fr fa g events receipts accounts, (mutex.the_send (Free.the_row N seating ledger) free_send, (condvar.the_send, tt)))
+
+    pool_sync : IsSync G → IsSend Ev → IsSend Re → IsSend Ac → IsSync pool_row
+    pool_sync y events receipts accounts = declared_sync (Pool.the_type N G Ev Re Ac seating gate fe event_placed.ghosts fr receipt_placed.ghosts fa entry_placed.ghosts ledger)
+        (server_sync G Ev Re Ac gate fe fr fa y events receipts accounts, (mutex.the_sync (Free.the_row N seating ledger) free_send, (condvar.the_sync, tt)))
 
     module _ (S K C R : RattleType) (source : SourceGhosts S.Denot) (sink : SinkGhosts K.Denot) where
-      pub connection_send : IsSend G → IsSync G → IsSend S → IsSend K → IsSend C → IsSend R → IsSend (Connection.the_row N G S K C R seating gate source sink ledger)
-      connection_send g y s k c r = declared_send (Connection.the_type N G S K C R seating gate source sink ledger) (
-        Arc-send (Pool.the_row N G seating gate ledger) (pool_send g) (pool_sync y),
-        (taken_send, (as_row_send (row_field S) s, (as_row_send (row_field K) k, (as_row_send (row_field C) c, (heap, (as_row_send (row_field R) r, tt)))))),
-      )
+      pub connection_send : IsSend G → IsSync G → IsSend Ev → IsSend Re → IsSend Ac → IsSend S → IsSend K → IsSend C → IsSend R
+          → IsSend (Connection.the_row N G S K C R Ev Re Ac seating gate fe event_placed.ghosts fr receipt_placed.ghosts fa entry_placed.ghosts source sink ledger)
+      connection_send g y events receipts accounts s k c r =
+          declared_send (Connection.the_type N G S K C R Ev Re Ac seating gate fe event_placed.ghosts fr receipt_placed.ghosts fa entry_placed.ghosts source sink ledger) (
+            Arc-send pool_row (pool_send g events receipts accounts) (pool_sync y events receipts accounts),
+            (taken_send, (as_row_send (row_field S) s, (as_row_send (row_field K) k, (as_row_send (row_field C) c, (heap, (as_row_send (row_field R) r, tt)))))),
+          )

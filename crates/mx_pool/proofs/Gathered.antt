@@ -10,6 +10,7 @@ use Rattle.mx_fold.specs.Lists.{Grows, Histories}
 use Rattle.mx_serve.specs.Together.{IsBegun}
 use Rattle.mx_serve.specs.declared.server.Server.{Server}
 use Rattle.mx_writers.specs.declared.gate.Gate.{Ghosts}
+use Rattle.mx_serve.specs.OfEngine.Outer.{EntryFolds, EventFolds, ReceiptFolds}
 use Rattle.mx_pool.specs.Connections.{Connected, Ends, HaveServed, IsConnected, IsOwed, IsPassAt, IsServerAt, Places, Service, service_of, session_of}
 use Rattle.mx_pool.specs.Sets.{accounts_set, events_set, receipts_set}
 
@@ -86,7 +87,7 @@ other_kind service A B to all (c ∷ cs) h =
       other_kind service A B to all cs h.1,
     )
 
-module _ {G : Type 0} {g : Ghosts G} (s : Server G g) (service : Service) (places : Places) (p : EnginePass) where
+module _ {G Ev Re Ac : Type 0} {g : Ghosts G} {fe : EventFolds Ev} {fr : ReceiptFolds Re} {fa : EntryFolds Ac} (s : Server G Ev Re Ac g fe fr fa) (service : Service) (places : Places) (p : EnginePass) where
   -- a pass of the streams that lie where the server's do is one of its engine
   pub ties_at : ∥ IsServerAt service places s ∥₁ → IsPassAt places p → Ties s.engine p
   ties_at is at = ∥∥₁_elim is (Prim.hlevel (props, events_set, receipts_set, accounts_set)) (λ h. let e = h.places_are in record {
@@ -104,7 +105,7 @@ module _ {G : Type 0} {g : Ghosts G} (s : Server G g) (service : Service) (place
     known = ties.known;
   })
 
-module _ {G : Type 0} {g : Ghosts G} (s : Server G g) (service : Service) (places : Places) (IsKind : Ends → Type 0) (old new : Histories) (counted : ℕ) (c : Connected) where
+module _ {G Ev Re Ac : Type 0} {g : Ghosts G} {fe : EventFolds Ev} {fr : ReceiptFolds Re} {fa : EntryFolds Ac} (s : Server G Ev Re Ac g fe fr fa) (service : Service) (places : Places) (IsKind : Ends → Type 0) (old new : Histories) (counted : ℕ) (c : Connected) where
   -- the connection that was owed was served
   pub served_now : ∥ IsServerAt service places s ∥₁ → ∥ IsKind c.told.before ∥₁ → Grows old new → (IsKind c.told.before → IsConnected (service_of s) IsKind new c) → ∥ IsOwed service IsKind old counted ∥₁
       → ∥ HaveServed service IsKind new counted ∥₁

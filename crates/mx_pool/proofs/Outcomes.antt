@@ -17,7 +17,7 @@ use Rattle.mx_pool.specs.declared.status.Status.TheVariants as status
 use Rattle.mx_pool.specs.Lines.{Tells, line_of, shown}
 use Rattle.mx_pool.specs.Serving.{IsServerStatus}
 use Rattle.mx_pool.specs.Connections.{Change, Clocked}
-use Rattle.mx_pool.specs.Runs.{HasRisen, HasUsers, IsBroken, IsCause, IsPrinted, IsRan, IsServerEnd, IsShort, IsUsage, Prints, RanMode, RanPipe, ServesUsers, TellsAt, TellsPipe, TellsServer, World, status_of, users_limit}
+use Rattle.mx_pool.specs.Runs.{HasRisen, HasUsers, IsBroken, IsCause, IsPrinted, IsRan, IsKeptCause, IsKeptEnd, IsServerEnd, IsShort, IsUsage, Prints, RanMode, RanModeOn, RanPipe, RanPipeOn, RanWith, ServesUsers, TellsAt, TellsPipe, TellsServer, TellsWith, World, status_of, users_limit}
 use Rattle.mx_words.specs.Words.{Help, Meaning, Refused, Said, Says, Version, Wrong}
 use Rattle.mx_serve.proofs.Served.{some-more}
 
@@ -51,6 +51,19 @@ mode_outside : (listen : Option (List ℕ)) (said : Said) (w : World) (s : Statu
 mode_outside None said w s c r is = pipe_outside said w s c r is
 mode_outside (Some address) said w s c r is = inl (subst (IsServerEnd (w.file said.users) w.file_faults) is r.2)
 
+-- the same on a journal
+pipe_on_outside : (name : List ℕ) (said : Said) (w : World) (s : Status) (c : Option (Ended × EnginePass)) → RanPipeOn name said w s c → s ≡ status.Outside → HasRisen w.file_faults ⊎ (HasRisen w.read_faults ⊎ HasRisen w.write_faults)
+pipe_on_outside name said w s None r is = inl (subst (IsKeptCause (w.file said.users) w.file_faults w.journal_faults) is r.1)
+pipe_on_outside name said w s (Some c) r is = inr (ended_outside w.read_faults w.write_faults c.0.end r.4.read_faults r.4.write_faults (sym r.4.status_is ∙ is))
+
+mode_on_outside : (listen : Option (List ℕ)) (name : List ℕ) (said : Said) (w : World) (s : Status) (c : Option (Ended × EnginePass)) → RanModeOn listen name said w s c → s ≡ status.Outside → HasRisen w.file_faults ⊎ (HasRisen w.read_faults ⊎ HasRisen w.write_faults)
+mode_on_outside None name said w s c r is = pipe_on_outside name said w s c r is
+mode_on_outside (Some address) name said w s c r is = inl (subst (IsKeptEnd (w.file said.users) w.file_faults w.journal_faults) is r.2)
+
+with_outside : (journal : Option (List ℕ)) (said : Said) (w : World) (s : Status) (c : Option (Ended × EnginePass)) → RanWith journal said w s c → s ≡ status.Outside → HasRisen w.file_faults ⊎ (HasRisen w.read_faults ⊎ HasRisen w.write_faults)
+with_outside None said w s c r is = mode_outside said.listen said w s c r is
+with_outside (Some name) said w s c r is = mode_on_outside said.listen name said w s c r is
+
 -- no run ends with both
 memory_outside : (s : Status) → s ≡ status.Memory refused_memory → s ≡ status.Outside → ⊥
 memory_outside s memory is = other (sym memory ∙ is)
@@ -80,7 +93,7 @@ text_outside w s c (inr printed) is = inr (inr (printed_outside w s printed.prin
 -- the status `Outside` comes only where a count rose
 pub ran_outside : (asked : Meaning) (w : World) (s : Status) (c : Option (Ended × EnginePass)) → IsRan asked w s c → s ≡ status.Outside → HasRisen w.file_faults ⊎ (HasRisen w.read_faults ⊎ HasRisen w.write_faults)
 ran_outside (Says said) w s c (inl short) is = absurd (memory_outside s short.0 is)
-ran_outside (Says said) w s c (inr r) is = mode_outside said.listen said w s c r is
+ran_outside (Says said) w s c (inr r) is = with_outside said.journal said w s c r is
 ran_outside Help w s c r is = text_outside w s c r is
 ran_outside Version w s c r is = text_outside w s c r is
 ran_outside Refused w s c r is = absurd (refused_outside s r.0 is)
@@ -103,6 +116,18 @@ pipe_usage said w s (Some c) r is = ended_usage c.0.end (sym r.2.status_is ∙ i
 mode_usage : (listen : Option (List ℕ)) (said : Said) (w : World) (s : Status) (c : Option (Ended × EnginePass)) → RanMode listen said w s c → s ≡ status.Usage → ⊥
 mode_usage None said w s c r is = pipe_usage said w s c r is
 mode_usage (Some address) said w s c r is = subst (IsServerEnd (w.file said.users) w.file_faults) is r.2
+
+pipe_on_usage : (name : List ℕ) (said : Said) (w : World) (s : Status) (c : Option (Ended × EnginePass)) → RanPipeOn name said w s c → s ≡ status.Usage → ⊥
+pipe_on_usage name said w s None r is = subst (IsKeptCause (w.file said.users) w.file_faults w.journal_faults) is r.1
+pipe_on_usage name said w s (Some c) r is = ended_usage c.0.end (sym r.4.status_is ∙ is)
+
+mode_on_usage : (listen : Option (List ℕ)) (name : List ℕ) (said : Said) (w : World) (s : Status) (c : Option (Ended × EnginePass)) → RanModeOn listen name said w s c → s ≡ status.Usage → ⊥
+mode_on_usage None name said w s c r is = pipe_on_usage name said w s c r is
+mode_on_usage (Some address) name said w s c r is = subst (IsKeptEnd (w.file said.users) w.file_faults w.journal_faults) is r.2
+
+with_usage : (journal : Option (List ℕ)) (said : Said) (w : World) (s : Status) (c : Option (Ended × EnginePass)) → RanWith journal said w s c → s ≡ status.Usage → ⊥
+with_usage None said w s c r is = mode_usage said.listen said w s c r is
+with_usage (Some name) said w s c r is = mode_on_usage said.listen name said w s c r is
 
 memory_usage : (s : Status) → s ≡ status.Memory refused_memory → s ≡ status.Usage → ⊥
 memory_usage s memory is = other (sym memory ∙ is)
@@ -127,7 +152,7 @@ text_usage w s c (inr printed) is = go printed.prints
 -- the status `Usage` comes exactly where the words aren't of their form
 pub ran_usage : (asked : Meaning) (w : World) (s : Status) (c : Option (Ended × EnginePass)) → IsRan asked w s c → IsUsage asked s
 ran_usage (Says said) w s c (inl short) = memory_usage s short.0
-ran_usage (Says said) w s c (inr r) = mode_usage said.listen said w s c r
+ran_usage (Says said) w s c (inr r) = with_usage said.journal said w s c r
 ran_usage Help w s c r = text_usage w s c r
 ran_usage Version w s c r = text_usage w s c r
 ran_usage Refused w s c r = r.0
@@ -184,6 +209,7 @@ tells_unread told faults (status.UsersFile n) cause file address old new f h lin
 tells_unread told faults status.Outside cause file address old new f h line = inl (line, λ e. cc)
 tells_unread told faults (status.Memory _) cause file address old new f h line = inl (line, λ e. cc)
 tells_unread told faults status.Listener cause file address old new f h line = absurd cause
+tells_unread told faults (status.Journal fault) cause file address old new f h line = absurd cause
 
 -- a server whose address isn't bound
 pub tells_unbound : (s : Status) → (s ≡ status.Listener) ⊎ (s ≡ status.Memory refused_memory) → (file address : List ℕ) (old new : Option (List ℕ)) (f h : ℕ)
@@ -210,3 +236,20 @@ unbound_done s (inr is) done = other (sym is ∙ done)
 pub tells_at : (old new : Option (List ℕ)) (f h : ℕ) (listen : Option (List ℕ)) (file address : List ℕ) (c : Option (Ended × EnginePass)) (s t : Status) → Some address ≡ listen → t ≡ s
     → TellsServer file address old new f h s → TellsAt listen file c old new f h t
 tells_at old new f h listen file address c s t at is told = subst (λ l. TellsAt l file c old new f h t) at (subst (λ u. TellsServer file address old new f h u) (sym is) told)
+
+-- ---- by the journal of the words
+
+-- what a run without a journal did says nothing of any
+pipe_any : (said : Said) (w : World) (f : List ℕ → Option (List ℕ)) (d : Change ℕ) (s : Status) (c : Option (Ended × EnginePass)) → RanPipe said w s c → RanPipe said (record w { journal = f; journal_faults = d }) s c
+pipe_any said w f d s None r = r
+pipe_any said w f d s (Some c) r = r
+
+mode_any : (listen : Option (List ℕ)) (said : Said) (w : World) (f : List ℕ → Option (List ℕ)) (d : Change ℕ) (s : Status) (c : Option (Ended × EnginePass)) → RanMode listen said w s c → RanMode listen said (record w { journal = f; journal_faults = d }) s c
+mode_any None said w f d s c r = pipe_any said w f d s c r
+mode_any (Some address) said w f d s c r = r
+
+pub ran_plain : (journal : Option (List ℕ)) (said : Said) (w : World) (f : List ℕ → Option (List ℕ)) (d : Change ℕ) (s : Status) (c : Option (Ended × EnginePass)) → journal ≡ None → RanMode said.listen said w s c → RanWith journal said (record w { journal = f; journal_faults = d }) s c
+ran_plain journal said w f d s c is r = subst (λ j. RanWith j said (record w { journal = f; journal_faults = d }) s c) (sym is) (mode_any said.listen said w f d s c r)
+
+pub tells_plain : (journal : Option (List ℕ)) (said : Said) (c : Option (Ended × EnginePass)) (old new : Option (List ℕ)) (f h : ℕ) (s : Status) → journal ≡ None → TellsAt said.listen said.users c old new f h s → TellsWith journal said c old new f h s
+tells_plain journal said c old new f h s is r = subst (λ j. TellsWith j said c old new f h s) (sym is) r

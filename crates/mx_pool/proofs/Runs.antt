@@ -1,7 +1,8 @@
 -- One connection for the users of a file, and a server for them.
-use Rattle.std.proofs.Common.{◌≡◌, ◌⊎◌, ℕ, List, [], Option, Some, None, inl, inr, refl, sym, subst, ◌∙◌}
+use Rattle.std.proofs.Common.{◌≡◌, ◌⊎◌, ℕ, ◌≤◌, List, [], Option, Some, None, inl, inr, refl, sym, subst, ◌∙◌, arith}
 use Rattle.std.proofs.Math.Logic.{∥∥₁_map}
 use Rattle.mx_http.specs.declared.call.Call.{Call}
+use Rattle.mx_outside.specs.Causes.{Rose}
 use Rattle.mx_ids.specs.declared.users.Users.{Users}
 use Rattle.mx_fold.specs.Lists.{AreLawful, Histories}
 use Rattle.mx_serve.specs.OfEngine.Answers.{Stops, counts_of, nothing}
@@ -12,7 +13,7 @@ use Rattle.mx_serve.specs.OfEngine.EnginePass.{EnginePass}
 use Rattle.mx_serve.specs.Tallies.{tally}
 use Rattle.mx_serve.specs.Rooms.{AreValid}
 use Rattle.mx_pool.specs.Connections.{Change, Clocked, Ends, Service, change}
-use Rattle.mx_pool.specs.Runs.{Arrivals, HasUsers, IsCause, IsIdle, ServesBy, ServesFile, ServesFor, ServesOne, ServesRun, arrivals, run_stops, server_status, service_for, site_for, status_of}
+use Rattle.mx_pool.specs.Runs.{Arrivals, HasUsers, IsCause, IsIdle, ServesBy, ServesFile, ServesFor, ServesOn, ServesOne, ServesRun, ServesWith, arrivals, run_stops, server_status, service_for, site_for, status_of}
 use Rattle.mx_pool.specs.Serving.{HasServed, IsServerStatus}
 use Rattle.mx_pool.specs.declared.serving.Served.{Served}
 use Rattle.mx_pool.specs.declared.serving.Served.TheVariants as served
@@ -67,6 +68,10 @@ server_rose A B how s is a b listener = go how a b (sym is ∙ listener)
     go served.ListenFailed a b e = inl (a refl)
     go served.StartRefused a b e = inr (b refl)
     go (served.Memory _) a b e = absurd cc
+
+-- a count that rose after it had grown rose from before
+pub rose_from : (old set bound new : ℕ) → set ≡ old → set ≤ bound → Rose bound new → Rose old new
+rose_from old set bound new is h rose = omega (arith, is, h, rose)
 
 -- the status of a server is one of a server's
 pub server_is : (how : Served) (s : Status) → s ≡ server_status how → IsServerStatus s
@@ -123,12 +128,24 @@ module _ {L P : Type 0} (left : L → Option (List P)) (ends : P → Ends) where
   by_none None said file came s idle other = idle
   by_none (Some address) said file came s idle other = inl (idle, other)
 
+  on_none : (listen : Option (List ℕ)) (told : Option (List ℕ)) (said : Said) (file : List ℕ → Option (List ℕ)) (came : Arrivals P) (s : Status) → IsIdle came → (s ≡ status.Done → ⊥) → ServesOn listen told said file left ends came s
+  on_none None told said file came s idle other = idle
+  on_none (Some address) told said file came s idle other = inl (idle, other)
+
+  -- by the journal of the words
+  pub served_plain : (journal : Option (List ℕ)) (journals : List ℕ → Option (List ℕ)) (said : Said) (file : List ℕ → Option (List ℕ)) (came : Arrivals P) (s : Status) → journal ≡ None → ServesBy said.listen said file left ends came s → ServesWith journal journals said file left ends came s
+  served_plain journal journals said file came s is r = subst (λ j. ServesWith j journals said file left ends came s) (sym is) r
+
   -- nothing is served where no run is asked, or there is no memory to read the words
-  pub run_none : (m : Meaning) (file : List ℕ → Option (List ℕ)) (came : Arrivals P) (s : Status) → IsIdle came → ((s ≡ status.Done → ⊥) ⊎ ((m ≡ Help) ⊎ (m ≡ Version))) → ServesRun m file left ends came s
-  run_none (Says said) file came s idle (inl other) = by_none said.listen said file came s idle other
-  run_none (Says said) file came s idle (inr (inl e)) = absurd cc
-  run_none (Says said) file came s idle (inr (inr e)) = absurd cc
-  run_none Help file came s idle other = idle
-  run_none Version file came s idle other = idle
-  run_none Refused file came s idle other = idle
-  run_none (Wrong why) file came s idle other = idle
+  with_none : (journal : Option (List ℕ)) (journals : List ℕ → Option (List ℕ)) (said : Said) (file : List ℕ → Option (List ℕ)) (came : Arrivals P) (s : Status) → IsIdle came → (s ≡ status.Done → ⊥) → ServesWith journal journals said file left ends came s
+  with_none None journals said file came s idle other = by_none said.listen said file came s idle other
+  with_none (Some name) journals said file came s idle other = on_none said.listen (journals name) said file came s idle other
+
+  pub run_none : (m : Meaning) (journals file : List ℕ → Option (List ℕ)) (came : Arrivals P) (s : Status) → IsIdle came → ((s ≡ status.Done → ⊥) ⊎ ((m ≡ Help) ⊎ (m ≡ Version))) → ServesRun m journals file left ends came s
+  run_none (Says said) journals file came s idle (inl other) = with_none said.journal journals said file came s idle other
+  run_none (Says said) journals file came s idle (inr (inl e)) = absurd cc
+  run_none (Says said) journals file came s idle (inr (inr e)) = absurd cc
+  run_none Help journals file came s idle other = idle
+  run_none Version journals file came s idle other = idle
+  run_none Refused journals file came s idle other = idle
+  run_none (Wrong why) journals file came s idle other = idle

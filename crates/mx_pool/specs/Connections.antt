@@ -18,6 +18,7 @@ use Rattle.mx_serve.specs.Together.{Session}
 use Rattle.mx_serve.specs.declared.ended.End.{End}
 use Rattle.mx_serve.specs.declared.server.Server.{Server}
 use Rattle.mx_writers.specs.declared.gate.Gate.{Ghosts}
+use Rattle.mx_serve.specs.OfEngine.Outer.{EntryFolds, EntryPlacing, EventFolds, EventPlacing, ReceiptFolds, ReceiptPlacing}
 
 -- a value before and after
 pub record Change (A : Type 0) : Type 0 where
@@ -101,15 +102,16 @@ pub record IsPassAt (places : Places) (p : EnginePass) : Type 0 where
   pub accounts : place_of_pass p.accounts.pass ≡ places.accounts
   pub known : IsKnown p.known (known_of p) (stores_of p)
 
-module _ {G : Type 0} {g : Ghosts G} where
-  abbrev pub places_of : Engine G g → Places
+module _ {G Ev Re Ac : Type 0} {g : Ghosts G} {fe : EventFolds Ev} {pe : EventPlacing} {fr : ReceiptFolds Re} {pr : ReceiptPlacing} {fa : EntryFolds Ac} {pa : EntryPlacing} where
+  abbrev pub places_of : Engine G Ev Re Ac g fe pe fr pr fa pa → Places
   places_of e = record { events = place_of e.events.stream; receipts = place_of e.receipts.stream; accounts = place_of e.accounts.stream }
 
-  abbrev pub service_of : Server G g → Service
+module _ {G Ev Re Ac : Type 0} {g : Ghosts G} {fe : EventFolds Ev} {fr : ReceiptFolds Re} {fa : EntryFolds Ac} where
+  abbrev pub service_of : Server G Ev Re Ac g fe fr fa → Service
   service_of s = record { site = site_of s.engine; stops = stops_of s.engine; limit = s.limit }
 
   -- the server is one of these, and its streams lie there
-  pub record IsServerAt (service : Service) (places : Places) (s : Server G g) : Type 0 where
+  pub record IsServerAt (service : Service) (places : Places) (s : Server G Ev Re Ac g fe fr fa) : Type 0 where
     pub service_is : service_of s ≡ service
     pub places_are : places_of s.engine ≡ places
 

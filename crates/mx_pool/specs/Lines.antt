@@ -5,6 +5,7 @@ use Rattle.std.specs.Io.KnownBytes.{Appends}
 use Rattle.std.specs.Str.{chars}
 use Rattle.mx_outside.specs.Causes.{Rose}
 use Rattle.mx_serve.specs.Sessions.{AppendsPart}
+use Rattle.mx_pool.specs.declared.status.JournalFault.TheVariants as journal
 use Rattle.mx_pool.specs.declared.status.Status.{Status}
 use Rattle.mx_pool.specs.declared.status.Status.TheVariants as status
 
@@ -34,10 +35,17 @@ line_of (status.UsersFile line) about = codes "mxsync: users file, line " ++ (de
 line_of status.Outside about = codes "mxsync: outside" ++ end_of about (codes ": can't be read\n")
 line_of (status.Memory _) about = codes "mxsync: memory\n"
 line_of status.Listener about = codes "mxsync: listener" ++ end_of about (codes ": can't be bound\n")
+line_of (status.Journal journal.Busy) about = codes "mxsync: journal: in use" ++ end_of about (codes "\n")
+line_of (status.Journal journal.Failed) about = codes "mxsync: journal" ++ end_of about (codes ": can't be read or written\n")
+line_of (status.Journal (journal.Line n)) about = codes "mxsync: journal: line " ++ (decimal n ++ end_of about (codes "\n"))
 
--- the line that names the address at which a server listens
-abbrev pub listening_line : List ℕ → List ℕ
-listening_line address = codes "mxsync: listening on " ++ (address ++ codes "\n")
+-- the line that names the address at which a server listens, and what is said behind that
+abbrev pub listening_line : List ℕ → List ℕ → List ℕ
+listening_line address says = codes "mxsync: listening on " ++ (address ++ says)
+
+-- without a journal nothing is kept
+abbrev pub unkept_text : List ℕ
+unkept_text = codes ", and keeps nothing: no journal is named\n"
 
 -- the line was written, or the sink failed
 abbrev pub Tells : Option (List ℕ) → Option (List ℕ) → ℕ → ℕ → List ℕ → Type 0

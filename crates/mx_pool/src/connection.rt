@@ -4,7 +4,7 @@ ghost use Rattle.mx_pool.specs.Connections.{ends};
 use crate::pool::Pool;
 use crate::seated::{Seating, Taken};
 use mx_outside::{Clock, Job, Sink, Source};
-use mx_writers::Gate;
+use mx_serve::Outside;
 use std::alloc::Global;
 use std::rt;
 use std::sync::{Arc, Wait};
@@ -12,7 +12,7 @@ use std::sync::{Arc, Wait};
 /// A connection with the seat that it has. Where it is dropped it isn't begun, and its seat goes back.
 pub struct Connection<
     N: Seating,
-    G: Gate + Drop,
+    G: Outside,
     S: Source + Drop,
     K: Sink + Drop,
     C: Drop,
@@ -30,7 +30,7 @@ pub struct Connection<
 
 impl<
     N: Seating,
-    G: Gate + Drop,
+    G: Outside,
     S: Source + Drop,
     K: Sink + Drop,
     C: Clock + Drop,
@@ -53,7 +53,7 @@ impl<
     }
 }
 
-impl<N: Seating, G: Gate + Drop, S: Source + Drop, K: Sink + Drop, C: Drop, R: Wait + Drop> Drop
+impl<N: Seating, G: Outside, S: Source + Drop, K: Sink + Drop, C: Drop, R: Wait + Drop> Drop
     for Connection<N, G, S, K, C, R> {
     /// Gives the seat back.
     fn drop(self) {

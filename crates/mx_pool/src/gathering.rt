@@ -7,13 +7,12 @@ ghost use Rattle.mx_serve.specs.OfEngine.Shown.{Ties, stores_of};
 use crate::pool::Pool;
 use crate::seated::{Seated, Seating};
 use mx_ids::Memory;
-use mx_serve::{EnginePass, Server};
-use mx_writers::Gate;
+use mx_serve::{EnginePass, Outside, Server};
 use std::alloc::Global;
 use std::sync::ledger::Share;
 
 /// So many seats of a server, whose passes have seen what `pass` has.
-pub fn make_seats<N: Seating, G: Gate + Drop>(
+pub fn make_seats<N: Seating, G: Outside>(
     alloc: Global,
     server: &Server<G>,
     pass: &mut EnginePass,
@@ -37,7 +36,7 @@ pub fn make_seats<N: Seating, G: Gate + Drop>(
 }
 
 /// A seat of a server, whose pass has seen what `pass` has.
-fn make_seat<N: Seating, G: Gate + Drop>(
+fn make_seat<N: Seating, G: Outside>(
     alloc: Global,
     server: &Server<G>,
     pass: &mut EnginePass,
@@ -58,7 +57,7 @@ fn make_seat<N: Seating, G: Gate + Drop>(
 }
 
 /// Lets `pass` see what those of these seats have seen, and takes their parts of the ledger.
-pub fn gather<N: Seating, G: Gate + Drop>(
+pub fn gather<N: Seating, G: Outside>(
     pool: &Pool<N, G>,
     seats: Vec<Seated<N>>,
     pass: &mut EnginePass,

@@ -1,6 +1,6 @@
 //! A run of the program: one connection over the standard streams, or a server for many.
 //!
-//! The call is `run`. It reads the words and the users file, and serves on an engine that has no store. In mode
+//! The call is `run`. It reads the words and the users file, and serves on an engine that has no store, or on a journal. In mode
 //! `pipe` what a run did is what `serve_connection` of `mx_serve` promises for the users of the file, with the
 //! headline in its clause. Each [`Status`] has its cause: `Usage` comes exactly where the words aren't of their form,
 //! and `Outside` and `Listener` only where a count of faults rose. In mode `serve` what a run did is what `serve` promises.
@@ -14,6 +14,7 @@
 
 mod connection;
 mod gathering;
+mod kept;
 mod pool;
 mod seated;
 mod serving;
@@ -24,5 +25,5 @@ mod telling;
 
 pub use serving::{Served, serve};
 pub use session::{Ran, run};
-pub use status::Status;
+pub use status::{JournalFault, Status};
 pub use telling::tell;

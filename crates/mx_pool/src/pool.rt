@@ -3,8 +3,7 @@ ghost use Rattle.std.specs.Prelude.{◌≡◌, ◌≤◌, vec_len};
 ghost use Rattle.mx_pool.specs.Connections.{IsServerAt};
 
 use crate::seated::{Seated, Seating, Taken};
-use mx_serve::Server;
-use mx_writers::Gate;
+use mx_serve::{Outside, Server};
 use std::alloc::Global;
 use std::mem;
 use std::sync::{Condvar, Mutex, Wait};
@@ -18,14 +17,14 @@ struct Free<N: Seating> {
 
 /// A server with its seats, of a number that was fixed at the start.
 #[derive(Drop)]
-pub struct Pool<N: Seating, G: Gate + Drop> {
+pub struct Pool<N: Seating, G: Outside> {
     server: Server<G>,
     free: Mutex<Free<N>>,
     freed: Condvar,
     ghost is: { ∥ IsServerAt N.service N.places server ∥₁ },
 }
 
-impl<N: Seating, G: Gate + Drop> Pool<N, G> {
+impl<N: Seating, G: Outside> Pool<N, G> {
     /// A server with these seats, all free.
     pub fn new(server: Server<G>, seats: Vec<Seated<N>>) -> Pool<N, G>
         requires { IsServerAt N.service N.places server }

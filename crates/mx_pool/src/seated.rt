@@ -6,8 +6,7 @@ ghost use Rattle.mx_serve.specs.OfEngine.Shown.{stores_of};
 ghost use Rattle.mx_pool.specs.Sets.{accounts_set, events_set, receipts_set};
 
 use mx_outside::{Clock, Sink, Source};
-use mx_serve::{EnginePass, Server, serve_connection};
-use mx_writers::Gate;
+use mx_serve::{EnginePass, Outside, Server, serve_connection};
 use std::alloc::Global;
 use std::marker::Brand;
 use std::rt;
@@ -83,7 +82,7 @@ impl<N: Seating> Taken<N> {
     }
 
     /// Serves the connection on its server up to its end.
-    pub fn serve<G: Gate + Drop, R: Wait + rt::Clock, S: Source, K: Sink, C: Clock>(
+    pub fn serve<G: Outside, R: Wait + rt::Clock, S: Source, K: Sink, C: Clock>(
         self,
         rt: &R,
         alloc: Global,

@@ -13,8 +13,7 @@ use crate::pool::Pool;
 use crate::seated::Seating;
 use mx_ids::Memory;
 use mx_outside::{Accepted, Clock, Listener, Spawner, Started};
-use mx_serve::{EnginePass, Server};
-use mx_writers::Gate;
+use mx_serve::{EnginePass, Outside, Server};
 use std::alloc::Global;
 use std::marker::Brand;
 use std::rt;
@@ -47,7 +46,7 @@ pub enum Served {
 /// `Closed` comes only where the listener, where it tells its pairs, has none left; `ListenFailed` and `StartRefused` only where the
 /// count of faults of the listener, of the spawner rose.
 pub fn serve<
-    G: Gate + Drop + Send + Sync + 'static,
+    G: Outside + Send + Sync + 'static,
     L: Listener,
     C: Clock + Drop + Send + 'static,
     R: Wait + rt::Clock + Threads + Copy + Drop + Send + 'static,
@@ -62,6 +61,9 @@ pub fn serve<
     clock: &C,
 ) -> (Served, EnginePass)
 where
+    G::Events: Send + 'static,
+    G::Receipts: Send + 'static,
+    G::Accounts: Send + 'static,
     L::In: Drop + Send + 'static,
     L::Out: Drop + Send + 'static,
     requires ties { Ties server.engine pass }
@@ -83,7 +85,7 @@ where
 /// The same, by the ledger of a type: there are as many connections as were begun.
 fn serve_by<
     N: Seating + Send + Sync + 'static,
-    G: Gate + Drop + Send + Sync + 'static,
+    G: Outside + Send + Sync + 'static,
     L: Listener,
     C: Clock + Drop + Send + 'static,
     R: Wait + rt::Clock + Threads + Copy + Drop + Send + 'static,
@@ -99,6 +101,9 @@ fn serve_by<
     clock: &C,
 ) -> (Served, EnginePass)
 where
+    G::Events: Send + 'static,
+    G::Receipts: Send + 'static,
+    G::Accounts: Send + 'static,
     L::In: Drop + Send + 'static,
     L::Out: Drop + Send + 'static,
     requires name { blank.name ≡ N.name }
@@ -134,7 +139,7 @@ where
 /// The same on a pool of so many seats, all free.
 fn serve_pool<
     N: Seating + Send + Sync + 'static,
-    G: Gate + Drop + Send + Sync + 'static,
+    G: Outside + Send + Sync + 'static,
     L: Listener,
     C: Clock + Drop + Send + 'static,
     R: Wait + rt::Clock + Threads + Copy + Drop + Send + 'static,
@@ -151,6 +156,9 @@ fn serve_pool<
     clock: &C,
 ) -> Served
 where
+    G::Events: Send + 'static,
+    G::Receipts: Send + 'static,
+    G::Accounts: Send + 'static,
     L::In: Drop + Send + 'static,
     L::Out: Drop + Send + 'static,
     requires parts { N.parts ≡ seats }
@@ -178,7 +186,7 @@ where
 /// Begins the connections of the listener, without the wait at the end: the book counts them.
 fn serve_all<
     N: Seating + Send + Sync + 'static,
-    G: Gate + Drop + Send + Sync + 'static,
+    G: Outside + Send + Sync + 'static,
     L: Listener,
     C: Clock + Drop + Send + 'static,
     R: Wait + rt::Clock + Threads + Copy + Drop + Send + 'static,
@@ -192,6 +200,9 @@ fn serve_all<
     clock: &C,
 ) -> Served
 where
+    G::Events: Send + 'static,
+    G::Receipts: Send + 'static,
+    G::Accounts: Send + 'static,
     L::In: Drop + Send + 'static,
     L::Out: Drop + Send + 'static,
     requires none { book.old.total ≡ 0 }

@@ -3,14 +3,16 @@ ghost use Rattle.std.specs.Prelude.{◌≡◌, ◌⊎◌, ◌≤◌, None, Some,
 ghost use Rattle.mx_outside.specs.Causes.{Rose};
 ghost use Rattle.mx_pool.specs.Lines.{Tells, line_of, shown};
 ghost use Rattle.mx_pool.specs.Connections.{change, clocked, ends_by};
-ghost use Rattle.mx_pool.specs.Runs.{HasUsers, IsCause, IsRan, IsServerEnd, IsUsage, Prints, RanBy, RanPipe, ServesAll, ServesAt, ServesBy, ServesFile, ServesFor, ServesRun, TellsAt, TellsPipe, TellsRun, TellsServer, arrivals};
+ghost use Rattle.mx_pool.specs.Runs.{HasUsers, IsCause, IsRan, IsServerEnd, IsUsage, Prints, RanBy, RanMode, RanPipe, ServesAll, ServesAt, ServesBy, ServesFile, ServesFor, ServesRun, ServesWith, TellsAt, TellsPipe, TellsRun, TellsServer, TellsWith, arrivals};
 ghost use Rattle.mx_pool.specs.Serving.{HasNoneLeft, IsServerStatus};
 ghost use Rattle.mx_words.specs.Words.{asked_of, said_by};
 
+use crate::kept::run_kept;
 use crate::serving::serve;
 use crate::site::{serve_users, server_for};
 use crate::status::{Status, server_status};
 use crate::telling::{tell, tell_about, tell_address};
+use mx_log::Logs;
 use mx_outside::{Clock, FileFault, Files, Listened, Listener, Put, Sink, Source, Spawner};
 use mx_serve::{Ended, EnginePass};
 use mx_users::{Directory, UsersFault, read_users};
@@ -30,27 +32,31 @@ pub struct Ran {
     pub connection: Option<(Ended, EnginePass)>,
 }
 
-/// Reads the users file that the words name, and serves on an engine that has no store, with so many writers a stream and so many
-/// requests a connection as the words say: in mode `pipe` one connection over `input` and `output`; in mode `serve` the connections that
+/// Reads the users file that the words name, and serves on an engine with so many writers a stream, and so many requests a connection as the
+/// words say. The engine has no store; where the words name a journal it has those of the journal's lines, and each store is kept there before
+/// it is made. So it serves in mode `pipe` one connection over `input` and `output`; in mode `serve` the connections that
 /// come to the address of the words, so many at once as the words say and silent for no longer than they say, each by a job of `spawner`. Where the words ask for the help or
 /// the version that is put to `output`, with status `Done`, and nothing is served. Waits for turns at the streams, rests in syncs with a
 /// `timeout`, and in mode `serve` waits for connections, for free passes, and for the jobs in the end.
 ///
 /// Where the status isn't `Done` one line to `errors` says why: `mxsync: usage`, `mxsync: users file, line 3`, `mxsync: outside`,
-/// `mxsync: listener`, `mxsync: request stream` or `mxsync: memory`. It goes on with `: ` and why the words aren't of their form, with the
-/// name of the users file that isn't read, or with the address that isn't bound; each control character of these (U+0000 to U+001F,
-/// U+007F to U+009F) is shown as a space. In mode `serve` a line before it names the address once it is bound. A fault of `errors` is
-/// passed over.
+/// `mxsync: listener`, `mxsync: journal: in use`, `mxsync: journal`, `mxsync: journal: line 3`, `mxsync: request stream` or `mxsync: memory`. It
+/// goes on with `: ` and why the words aren't of their form, with the name of the users file or of the journal that isn't read, with what is
+/// wrong with the journal's line, or with the address that isn't bound; each control character of these (U+0000 to U+001F,
+/// U+007F to U+009F) is shown as a space. In mode `serve` a line before it names the address once it is bound, and says so
+/// where no journal is named. A fault of `errors` is passed over.
 ///
 /// `Usage` comes exactly where the words aren't of their form; `UsersFile` where the file breaks its form or has
-/// more than 1,048,576 bytes; `Outside` only where a count of faults of `files`, `input` or `output` rose; `Listener` only where that
-/// of `listener` or of `spawner` rose. In mode `serve` `Done` comes only where the listener, where it tells its pairs, has none left. Then all
+/// more than 1,048,576 bytes; `Outside` only where a count of faults of `files`, `input` or `output` rose; a `Journal` that is `Busy` or
+/// `Failed` only where that of `logs` did; `Listener` only where that of `listener` or of `spawner` rose. In mode `serve` `Done` comes only where the
+/// listener, where it tells its pairs, has none left. Then all
 /// connections that were begun were served, as `serve` promises, for the users of the file; at another status that, or none was begun.
 /// `connection` is none in mode `serve` and for the help and the version, and else only for `Usage` and `UsersFile`, for a fault of
 /// `files`, and for want of memory: then nothing was taken from `input`, and nothing but the help or the version was written to `output`.
 #[tactic(auto, using(crate::proofs::Outcomes::ran_usage, crate::proofs::Outcomes::ran_outside))]
 pub fn run<
     F: Files,
+    J: Logs,
     S: Source,
     K: Sink,
     E: Sink,
@@ -62,6 +68,7 @@ pub fn run<
     alloc: Global,
     words: &[String],
     files: &mut F,
+    logs: &mut J,
     input: &mut S,
     output: &mut K,
     errors: &mut E,
@@ -74,9 +81,11 @@ where
     L::Out: Drop + Send + 'static,
     ensures ran { IsRan (asked_of (map string_bytes words.now)) (record {
       file = F.told files.old;
+      journal = J.told logs.old;
       left = change (S.left input.old) (S.left input.new);
       written = change (K.written output.old) (K.written output.new);
       file_faults = change (F.faults files.old) (F.faults files.new);
+      journal_faults = change (J.faults logs.old) (J.faults logs.new);
       read_faults = change (S.faults input.old) (S.faults input.new);
       write_faults = change (K.faults output.old) (K.faults output.new);
       clock = change (clocked (C.last clock.old) (C.readings clock.old)) (clocked (C.last clock.new) (C.readings clock.new));
@@ -85,13 +94,13 @@ where
     ensures outside { result.status ≡ Status.Outside → Rose (F.faults files.old) (F.faults files.new) ⊎ (Rose (S.faults input.old) (S.faults input.new) ⊎ Rose (K.faults output.old) (K.faults output.new)) }
     ensures closed { result.status ≡ Status.Done → ServesAll (asked_of (map string_bytes words.now)) (L.left listener.new) }
     ensures listener { result.status ≡ Status.Listener → Rose (L.faults listener.old) (L.faults listener.new) ⊎ Rose spawner.old.plan.faults spawner.new.plan.faults }
-    ensures served { ServesRun (asked_of (map string_bytes words.now)) (F.told files.old) L.left (ends_by L.In.left L.Out.written L.In.faults L.Out.faults)
+    ensures served { ServesRun (asked_of (map string_bytes words.now)) (J.told logs.old) (F.told files.old) L.left (ends_by L.In.left L.Out.written L.In.faults L.Out.faults)
         (arrivals (change (L.left listener.old) (L.left listener.new)) (change spawner.old.plan.next spawner.new.plan.next)) result.status }
     ensures told { TellsRun (asked_of (map string_bytes words.now)) result.connection (E.written errors.old) (E.written errors.new) (E.faults errors.old) (E.faults errors.new) result.status }
 {
     match read_words(alloc, words) {
         Ok(Asked::Run(words)) => run_words(
-            rt, alloc, &words, files, input, output, errors, clock, listener, spawner,
+            rt, alloc, &words, files, logs, input, output, errors, clock, listener, spawner,
         ),
         Ok(Asked::Help(text)) => print_text(text.as_str(), output, errors),
         Ok(Asked::Version(text)) => print_text(text.as_str(), output, errors),
@@ -104,6 +113,72 @@ where
 
 /// A run by words of their form.
 fn run_words<
+    F: Files,
+    J: Logs,
+    S: Source,
+    K: Sink,
+    E: Sink,
+    C: Clock + Drop + Send + 'static,
+    L: Listener,
+    R: Wait + rt::Clock + Threads + Copy + Drop + Send + 'static,
+>(
+    rt: &R,
+    alloc: Global,
+    words: &Words,
+    files: &mut F,
+    logs: &mut J,
+    input: &mut S,
+    output: &mut K,
+    errors: &mut E,
+    clock: &mut C,
+    listener: &mut L,
+    spawner: &mut Spawner,
+) -> Ran
+where
+    L::In: Drop + Send + 'static,
+    L::Out: Drop + Send + 'static,
+    requires workers { (1 ≤ words.now.workers) × (words.now.workers ≤ 16) }
+    requires connections { 1 ≤ words.now.connections }
+    ensures ran { RanBy (said_by words.now) (record {
+      file = F.told files.old;
+      journal = J.told logs.old;
+      left = change (S.left input.old) (S.left input.new);
+      written = change (K.written output.old) (K.written output.new);
+      file_faults = change (F.faults files.old) (F.faults files.new);
+      journal_faults = change (J.faults logs.old) (J.faults logs.new);
+      read_faults = change (S.faults input.old) (S.faults input.new);
+      write_faults = change (K.faults output.old) (K.faults output.new);
+      clock = change (clocked (C.last clock.old) (C.readings clock.old)) (clocked (C.last clock.new) (C.readings clock.new));
+    }) result.status result.connection }
+    ensures closed { result.status ≡ Status.Done → ServesAt (said_by words.now).listen (L.left listener.new) }
+    ensures listener { result.status ≡ Status.Listener → Rose (L.faults listener.old) (L.faults listener.new) ⊎ Rose spawner.old.plan.faults spawner.new.plan.faults }
+    ensures served { ServesWith (said_by words.now).journal (J.told logs.old) (said_by words.now) (F.told files.old) L.left (ends_by L.In.left L.Out.written L.In.faults L.Out.faults)
+        (arrivals (change (L.left listener.old) (L.left listener.new)) (change spawner.old.plan.next spawner.new.plan.next)) result.status }
+    ensures told { TellsWith (said_by words.now).journal (said_by words.now) result.connection (E.written errors.old) (E.written errors.new) (E.faults errors.old) (E.faults errors.new) result.status }
+{
+    match &words.journal {
+        None => run_plain(
+            rt, alloc, words, files, input, output, errors, clock, listener, spawner,
+        ),
+        Some(name) => run_kept(
+            rt,
+            alloc,
+            words,
+            name.as_str(),
+            files,
+            logs,
+            input,
+            output,
+            errors,
+            clock,
+            listener,
+            spawner,
+        ),
+    }
+}
+
+/// A run by words that name no journal.
+fn run_plain<
     F: Files,
     S: Source,
     K: Sink,
@@ -128,11 +203,13 @@ where
     L::Out: Drop + Send + 'static,
     requires workers { (1 ≤ words.now.workers) × (words.now.workers ≤ 16) }
     requires connections { 1 ≤ words.now.connections }
-    ensures ran { RanBy (said_by words.now) (record {
+    ensures ran { RanMode (said_by words.now).listen (said_by words.now) (record {
       file = F.told files.old;
+      journal = λ name. None;
       left = change (S.left input.old) (S.left input.new);
       written = change (K.written output.old) (K.written output.new);
       file_faults = change (F.faults files.old) (F.faults files.new);
+      journal_faults = change 0 0;
       read_faults = change (S.faults input.old) (S.faults input.new);
       write_faults = change (K.faults output.old) (K.faults output.new);
       clock = change (clocked (C.last clock.old) (C.readings clock.old)) (clocked (C.last clock.new) (C.readings clock.new));
@@ -173,9 +250,11 @@ fn run_pipe<F: Files, S: Source, K: Sink, E: Sink, C: Clock, R: Wait + rt::Clock
     requires workers { (1 ≤ words.now.workers) × (words.now.workers ≤ 16) }
     ensures ran { RanPipe (said_by words.now) (record {
       file = F.told files.old;
+      journal = λ name. None;
       left = change (S.left input.old) (S.left input.new);
       written = change (K.written output.old) (K.written output.new);
       file_faults = change (F.faults files.old) (F.faults files.new);
+      journal_faults = change 0 0;
       read_faults = change (S.faults input.old) (S.faults input.new);
       write_faults = change (K.faults output.old) (K.faults output.new);
       clock = change (clocked (C.last clock.old) (C.readings clock.old)) (clocked (C.last clock.new) (C.readings clock.new));
@@ -274,7 +353,11 @@ where
     match listener.listen(address) {
         Listened::Failed => tell_about(alloc, errors, Status::Listener, address),
         Listened::Done => {
-            tell_address(errors, address);
+            tell_address(
+                errors,
+                address,
+                b", and keeps nothing: no journal is named\n",
+            );
             let status = serve_site(rt, alloc, words, directory, clock, listener, spawner);
             tell(errors, status, None);
             status
@@ -283,7 +366,7 @@ where
 }
 
 /// Tells a listener what the words say of its connections.
-fn set_up<L: Listener>(words: &Words, listener: &mut L)
+pub(crate) fn set_up<L: Listener>(words: &Words, listener: &mut L)
     ensures kept { L.left listener.new ≡ L.left listener.old }
     ensures count { L.faults listener.new ≡ L.faults listener.old }
 {
@@ -337,7 +420,7 @@ where
 }
 
 /// The users of the file of a name, or the status of a run that has none, which is told.
-fn users_told<F: Files, E: Sink>(
+pub(crate) fn users_told<F: Files, E: Sink>(
     alloc: Global,
     name: &str,
     files: &mut F,
@@ -395,7 +478,7 @@ fn unserved_for<E: Sink>(status: Status, errors: &mut E) -> Ran
 }
 
 /// A run that served no connection over `input` and `output`.
-fn unserved(status: Status) -> Ran
+pub(crate) fn unserved(status: Status) -> Ran
     ensures status { result.status ≡ status }
     ensures connection { result.connection ≡ None }
 {

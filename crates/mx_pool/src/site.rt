@@ -1,13 +1,18 @@
 //! A server for the users of a file.
-ghost use Rattle.std.specs.Prelude.{◌≡◌, ◌≤◌, IfOk};
-ghost use Rattle.mx_serve.specs.OfEngine.Shown.{Ties, made_of, none_made, site_of, stops_of, stores_of};
+ghost use Rattle.std.specs.Prelude.{◌≡◌, ◌≤◌, IfErr, IfOk};
+ghost use Rattle.mx_serve.specs.OfEngine.Shown.{Ties, all_started, made_of, none_made, site_of, stops_of, stores_of};
 ghost use Rattle.mx_serve.specs.OfEngine.Answers.{nothing};
+ghost use Rattle.mx_serve.specs.OfEngine.Written.{Made};
 ghost use Rattle.mx_pool.specs.Connections.{change, clocked};
-ghost use Rattle.mx_pool.specs.Runs.{ServesUsers, run_stops, site_for};
+ghost use Rattle.mx_pool.specs.Runs.{ServesUsers, kept_stops, run_stops, site_for};
+ghost use Rattle.mx_restore.specs.Faults.{HasCause};
+ghost use Rattle.mx_restore.specs.Restored.{Begins};
 
 use crate::status::{Status, status_of};
 use mx_ids::Memory;
+use mx_log::Logs;
 use mx_outside::{Clock, Sink, Source};
+use mx_restore::{Kept, RestoreFault, engine_on};
 use mx_serve::{Ended, EnginePass, Server, Setup, engine, serve_connection};
 use mx_users::Directory;
 use mx_writers::Open;
@@ -66,4 +71,38 @@ pub(crate) fn server_for(
     };
     let (engine, pass) = engine(alloc, setup, Open)?;
     Ok((Server::new(alloc, engine, limit)?, pass))
+}
+
+/// A server of so many requests a connection on an engine with so many writers a stream, on the journal of a name, and a pass of the engine.
+pub(crate) fn server_on<J: Logs, R: Wait>(
+    rt: &R,
+    alloc: Global,
+    directory: Directory,
+    workers: u8,
+    limit: u64,
+    logs: &mut J,
+    name: &str,
+) -> Result<(Server<Kept<J::File>>, EnginePass), RestoreFault>
+    requires workers { (1 ≤ workers) × (workers ≤ 16) }
+    ensures ties { IfOk result (λ r. Ties r.0.engine r.1) }
+    ensures site { IfOk result (λ r. site_of r.0.engine ≡ site_for directory workers) }
+    ensures stops { IfOk result (λ r. stops_of r.0.engine ≡ kept_stops) }
+    ensures limit { IfOk result (λ r. r.0.limit ≡ limit) }
+    ensures stores { IfOk result (λ r. Begins (J.told logs.old name.now) (stores_of r.1)) }
+    ensures made { IfOk result (λ r. (m : Made) × (made_of r.1 ≡ all_started m)) }
+    ensures cause { IfErr result (λ fault. HasCause fault (J.faults logs.old) (J.faults logs.new)) }
+{
+    let setup = Setup {
+        users: directory,
+        workers,
+        stop: STOP,
+    };
+    let (engine, pass) = engine_on(rt, alloc, setup, logs, name)?;
+    match Server::new(alloc, engine, limit) {
+        Ok(server) => Ok((server, pass)),
+        Err(refused) => {
+            drop(pass);
+            Err(RestoreFault::Memory(refused))
+        }
+    }
 }

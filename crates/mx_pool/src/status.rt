@@ -6,6 +6,17 @@ use crate::serving::Served;
 use mx_ids::Memory;
 use mx_serve::End;
 
+/// Why a run has no journal.
+#[derive(Clone, Copy, Debug, PartialEq, Eq)]
+pub enum JournalFault {
+    /// Another process has it open.
+    Busy,
+    /// It couldn't be opened, read or written.
+    Failed,
+    /// The first of its lines that is refused, from 1.
+    Line(u64),
+}
+
 /// How a run ends.
 #[derive(Clone, Copy, Debug, PartialEq, Eq)]
 pub enum Status {
@@ -23,10 +34,12 @@ pub enum Status {
     Memory(Memory),
     /// The listener failed, or the spawner refused a connection's job.
     Listener,
+    /// There is no journal, although the words name one.
+    Journal(JournalFault),
 }
 
 impl Status {
-    /// The status of the process, 0 to 6.
+    /// The status of the process, 0 to 7.
     pub fn number(self) -> u8
         ensures { result ≡ number_of self }
     {
@@ -38,6 +51,7 @@ impl Status {
             Status::Outside => 4,
             Status::Memory(_) => 5,
             Status::Listener => 6,
+            Status::Journal(_) => 7,
         }
     }
 }

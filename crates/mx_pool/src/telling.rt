@@ -3,7 +3,7 @@ ghost use Rattle.std.specs.Prelude.{◌≡◌, ◌⊎◌, ◌++◌, Some, IfOk, 
 ghost use Rattle.mx_ids.specs.Memory.{refused_memory};
 ghost use Rattle.mx_pool.specs.Lines.{Tells, end_of, line_of, listening_line, limit_text, shown};
 
-use crate::status::Status;
+use crate::status::{JournalFault, Status};
 use itoa::Buffer;
 use mx_ids::{Memory, split_first};
 use mx_outside::{Put, Sink};
@@ -12,8 +12,9 @@ use std::alloc::Global;
 /// Puts one line to `errors` that says why the status isn't `Done`; nothing where it is. A fault of `errors` is passed over. Takes no
 /// memory.
 ///
-/// The line of `Usage`, `UsersFile`, `Outside` and `Listener` goes on with `: ` and what the status is about, where it is given: why the
-/// words aren't of their form, the name of the users file, or the address that can't be bound. It stands as it is, so it has no line's end.
+/// The line of `Usage`, `UsersFile`, `Outside`, `Listener` and `Journal` goes on with `: ` and what the status is about, where it is given: why the
+/// words aren't of their form, the name of the users file, the address that can't be bound, the name of the journal, or what is wrong with its
+/// line. It stands as it is, so it has no line's end.
 pub fn tell<E: Sink>(errors: &mut E, status: Status, about: Option<&str>)
     ensures { Tells (E.written errors.old) (E.written errors.new) (E.faults errors.old) (E.faults errors.new) (line_of status (option_map (λ s. s.now) about.entry)) }
 {
@@ -25,6 +26,7 @@ pub fn tell<E: Sink>(errors: &mut E, status: Status, about: Option<&str>)
         Status::Outside => put_line(errors, b"mxsync: outside", about, b": can't be read\n"),
         Status::Memory(_) => put_text(errors, b"mxsync: memory\n"),
         Status::Listener => put_line(errors, b"mxsync: listener", about, b": can't be bound\n"),
+        Status::Journal(fault) => put_journal_line(errors, fault, about),
     }
 }
 
@@ -66,13 +68,13 @@ fn on_one_line(alloc: Global, text: &str) -> Result<String, Memory>
     Ok(line)
 }
 
-/// Puts the line that names the address at which a server listens. A fault is passed over. Takes no memory.
-pub(crate) fn tell_address<E: Sink>(errors: &mut E, address: &str)
-    ensures { Tells (E.written errors.old) (E.written errors.new) (E.faults errors.old) (E.faults errors.new) (listening_line address.now) }
+/// Puts the line that names the address at which a server listens, and what is said behind that. A fault is passed over. Takes no memory.
+pub(crate) fn tell_address<E: Sink>(errors: &mut E, address: &str, says: &[u8])
+    ensures { Tells (E.written errors.old) (E.written errors.new) (E.faults errors.old) (E.faults errors.new) (listening_line address.now says.now) }
 {
     match errors.put(b"mxsync: listening on ") {
         Put::Failed => {}
-        Put::Done => put_about(errors, address, b"\n"),
+        Put::Done => put_about(errors, address, says),
     }
 }
 
@@ -124,6 +126,42 @@ fn put_users_line<E: Sink>(errors: &mut E, line: u64, about: Option<&str>)
         Put::Failed => {}
         Put::Done => put_number(errors, line, about),
     }
+}
+
+/// Puts the line that tells why a run has no journal.
+fn put_journal_line<E: Sink>(errors: &mut E, fault: JournalFault, about: Option<&str>)
+    ensures { Tells (E.written errors.old) (E.written errors.new) (E.faults errors.old) (E.faults errors.new) (line_of (Status.Journal fault) (option_map (λ s. s.now) about.entry)) }
+{
+    match fault {
+        JournalFault::Busy => put_line(errors, b"mxsync: journal: in use", about, b"\n"),
+        JournalFault::Failed => {
+            put_line(
+                errors,
+                b"mxsync: journal",
+                about,
+                b": can't be read or written\n",
+            );
+        }
+        JournalFault::Line(number) => put_refused_line(errors, number, about),
+    }
+}
+
+/// Puts the line that names a line of the journal.
+fn put_refused_line<E: Sink>(errors: &mut E, number: u64, about: Option<&str>)
+    ensures { Tells (E.written errors.old) (E.written errors.new) (E.faults errors.old) (E.faults errors.new) (line_of (Status.Journal (JournalFault.Line number)) (option_map (λ s. s.now) about.entry)) }
+{
+    match errors.put(b"mxsync: journal: line ") {
+        Put::Failed => {}
+        Put::Done => put_digits(errors, number, about),
+    }
+}
+
+/// Puts a number, and the end of a line.
+fn put_digits<E: Sink>(errors: &mut E, number: u64, about: Option<&str>)
+    ensures { Tells (E.written errors.old) (E.written errors.new) (E.faults errors.old) (E.faults errors.new) (decimal number ++ end_of (option_map (λ s. s.now) about.entry) (codes "\n")) }
+{
+    let mut digits = Buffer::new();
+    put_line(errors, digits.format(number).as_bytes(), about, b"\n");
 }
 
 /// Puts the number of a line of the users file, and the end of the line.

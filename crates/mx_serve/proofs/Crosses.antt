@@ -21,6 +21,7 @@ use Rattle.mx_api_user.specs.contracts.ask.UserRoutes as UserRoutes
 use Rattle.mx_api_user.specs.contracts.route.Route as UserRoute
 use Rattle.mx_api_user.proofs.route.Route.TheSendSync as user_route
 use Rattle.mx_writers.specs.declared.gate.Gate.{Ghosts}
+use Rattle.mx_poll.specs.OfEngine.Outer.{EntryFolds, EventFolds, ReceiptFolds}
 use Rattle.mx_poll.proofs.OfEngine.Crosses.{engine_send, engine_sync}
 use Rattle.mx_serve.specs.contracts.call_asked.Routes as Routes
 use Rattle.mx_serve.specs.contracts.server.Server as Server
@@ -63,9 +64,9 @@ routes_sync = declared_sync Routes.the_type (
   ),
 )
 
-module _ (G : RattleType) (gate : Ghosts G.Denot) where
-  pub server_send : IsSend G → IsSend (Server.the_row G gate)
-  server_send g = declared_send (Server.the_type G gate) (engine_send G gate g, (routes_send, (search sendable depth 9, tt)))
+module _ (G Ev Re Ac : RattleType) (gate : Ghosts G.Denot) (fe : EventFolds Ev.Denot) (fr : ReceiptFolds Re.Denot) (fa : EntryFolds Ac.Denot) where
+  pub server_send : IsSend G → IsSend Ev → IsSend Re → IsSend Ac → IsSend (Server.the_row G Ev Re Ac gate fe fr fa)
+  server_send g events receipts accounts = declared_send (Server.the_type G Ev Re Ac gate fe fr fa) (engine_send G Ev Re Ac gate fe fr fa g events receipts accounts, (routes_send, (search sendable depth 9, tt)))
 
-  pub server_sync : IsSync G → IsSync (Server.the_row G gate)
-  server_sync g = declared_sync (Server.the_type G gate) (engine_sync G gate g, (routes_sync, (search sendable depth 9, tt)))
+  pub server_sync : IsSync G → IsSend Ev → IsSend Re → IsSend Ac → IsSync (Server.the_row G Ev Re Ac gate fe fr fa)
+  server_sync g events receipts accounts = declared_sync (Server.the_type G Ev Re Ac gate fe fr fa) (engine_sync G Ev Re Ac gate fe fr fa g events receipts accounts, (routes_sync, (search sendable depth 9, tt)))

@@ -2,5 +2,6 @@ pub mod Answers
 pub mod Engine
 pub mod EnginePass
 pub mod Mark
+pub mod Outer
 pub mod Shown
 pub mod Written

@@ -1,7 +1,7 @@
 -- The numbers of what the words say lie in the bounds of their options.
-use Rattle.std.proofs.Common.{◌≡◌, ◌∙◌, ◌≤◌, ℕ, Bool, Option, Some, None, List, ap, sym, codes}
+use Rattle.std.proofs.Common.{◌≡◌, ◌∙◌, ◌≤◌, ℕ, Bool, Option, Some, None, ap, sym, codes}
 use Rattle.std.specs.Prelude.{Result, Ok, Err}
-use Rattle.clap.specs.Words.{Row, Text, first_of, one_of, rows_of}
+use Rattle.clap.specs.Words.{Text, first_of, one_of, rows_of}
 use Rattle.clap.specs.declared.parser.matches.Found.{Found}
 use Rattle.clap.proofs.WalkLemmas.{one_text-rows}
 use Rattle.mx_words.specs.Matches.{HasNumberUpTo, HasNumbers}
@@ -15,15 +15,15 @@ record Has (s : Said) (w c r i : ℕ) : Type 0 where
   requests : s.requests ≡ r
   idle : s.idle ≡ i
 
-at : (users : Text) (w c r i : ℕ) (u : Bool) (way : Result (Option Text) Text) (s : Said) → Ok s ≡ said_at users w c r i u way → Has s w c r i
-at users w c r i u (Err why) s e = absurd cc
-at users w c r i u (Ok listen) s e = let same : s ≡ record { users = users; listen = listen; workers = w; connections = c; requests = r; idle = i; until_eof = u } = cc (e) in
+at : (users : Text) (w c r i : ℕ) (u : Bool) (journal : Option Text) (way : Result (Option Text) Text) (s : Said) → Ok s ≡ said_at users w c r i u journal way → Has s w c r i
+at users w c r i u journal (Err why) s e = absurd cc
+at users w c r i u journal (Ok listen) s e = let same : s ≡ record { users = users; listen = listen; workers = w; connections = c; requests = r; idle = i; until_eof = u; journal = journal } = cc (e) in
     record { workers = ap (λ (x : Said). x.workers) same; connections = ap (λ (x : Said). x.connections) same; requests = ap (λ (x : Said). x.requests) same; idle = ap (λ (x : Said). x.idle) same }
 
-with_numbers : (users word listen : Option Text) (w c r i : ℕ) (u : Bool) (s : Said) → Ok s ≡ said_with users word listen w c r i u → Has s w c r i
-with_numbers None word listen w c r i u s e = absurd cc
-with_numbers (Some users) None listen w c r i u s e = absurd cc
-with_numbers (Some users) (Some word) listen w c r i u s e = at users w c r i u (way_of word listen) s e
+with_numbers : (users word listen : Option Text) (w c r i : ℕ) (u : Bool) (journal : Option Text) (s : Said) → Ok s ≡ said_with users word listen w c r i u journal → Has s w c r i
+with_numbers None word listen w c r i u journal s e = absurd cc
+with_numbers (Some users) None listen w c r i u journal s e = absurd cc
+with_numbers (Some users) (Some word) listen w c r i u journal s e = at users w c r i u journal (way_of word listen) s e
 
 bounded : (most : ℕ) (f : Found) (id : Text) (n : ℕ) → HasNumberUpTo most f id → n ≡ number_in (one_of id (rows_of f)) → (1 ≤ n) × (n ≤ most)
 bounded most f id n has e = rw (e ∙ ap number_in (sym (one_text-rows f id) ∙ has.1)) (has.3, has.4)
@@ -32,7 +32,7 @@ pub within : (f : Found) (w : Words) → HasNumbers f → Ok (said_by w) ≡ sai
 within f w has e =
     let n = with_numbers (first_of (codes "users") (rows_of f)) (first_of (codes "mode") (rows_of f)) (first_of (codes "listen") (rows_of f))
     (number_in (one_of (codes "workers") (rows_of f))) (number_in (one_of (codes "connections") (rows_of f))) (number_in (one_of (codes "requests") (rows_of f))) (number_in (one_of (codes "idle") (rows_of f)))
-    (is_set (first_of (codes "until-eof") (rows_of f))) (said_by w) e in
+    (is_set (first_of (codes "until-eof") (rows_of f))) (first_of (codes "journal") (rows_of f)) (said_by w) e in
     record {
       workers = bounded 16 f (codes "workers") w.workers has.workers n.workers;
       connections = bounded 1000 f (codes "connections") w.connections has.connections n.connections;

@@ -1,5 +1,5 @@
 -- What a parse by the program's command gives.
-use Rattle.std.proofs.Common.{◌≡◌, ◌⊎◌, ◌∙◌, ◌<◌, ℕ, zero, suc, true, false, List, [], ◌∷◌, length, map, Option, Some, None, codes, refl, sym, ap, subst, inl, inr, arith, slice_index}
+use Rattle.std.proofs.Common.{◌≡◌, ◌⊎◌, ◌∙◌, ◌<◌, ℕ, zero, suc, true, false, List, [], ◌∷◌, length, map, Some, codes, refl, sym, ap, subst, inl, inr, arith, slice_index}
 use Rattle.std.specs.List.{list_all, slice_index_or}
 use Rattle.std.specs.Str.{bytes_eq}
 use Rattle.std.specs.Prelude.{Result, Ok, Err, pos}
@@ -39,7 +39,7 @@ rule_at [] k d lt = absurd (omega arith)
 rule_at (x ∷ xs) zero d lt = refl
 rule_at (x ∷ xs) (suc k) d lt = rule_at xs k d (omega arith)
 
-only_workers : (j : ℕ) (r : Rule) → j < 8 → bytes_eq (slice_index_or rules j r).id (codes "workers") ≡ true → j ≡ 3
+only_workers : (j : ℕ) (r : Rule) → j < 9 → bytes_eq (slice_index_or rules j r).id (codes "workers") ≡ true → j ≡ 3
 only_workers zero r lt e = let bad : false ≡ true = e in cc
 only_workers (suc zero) r lt e = let bad : false ≡ true = e in cc
 only_workers (suc (suc zero)) r lt e = let bad : false ≡ true = e in cc
@@ -48,9 +48,10 @@ only_workers (suc (suc (suc (suc zero)))) r lt e = let bad : false ≡ true = e 
 only_workers (suc (suc (suc (suc (suc zero))))) r lt e = let bad : false ≡ true = e in cc
 only_workers (suc (suc (suc (suc (suc (suc zero)))))) r lt e = let bad : false ≡ true = e in cc
 only_workers (suc (suc (suc (suc (suc (suc (suc zero))))))) r lt e = let bad : false ≡ true = e in cc
-only_workers (suc (suc (suc (suc (suc (suc (suc (suc j)))))))) r lt e = absurd (omega arith)
+only_workers (suc (suc (suc (suc (suc (suc (suc (suc zero)))))))) r lt e = let bad : false ≡ true = e in cc
+only_workers (suc (suc (suc (suc (suc (suc (suc (suc (suc j))))))))) r lt e = absurd (omega arith)
 
-only_connections : (j : ℕ) (r : Rule) → j < 8 → bytes_eq (slice_index_or rules j r).id (codes "connections") ≡ true → j ≡ 4
+only_connections : (j : ℕ) (r : Rule) → j < 9 → bytes_eq (slice_index_or rules j r).id (codes "connections") ≡ true → j ≡ 4
 only_connections zero r lt e = let bad : false ≡ true = e in cc
 only_connections (suc zero) r lt e = let bad : false ≡ true = e in cc
 only_connections (suc (suc zero)) r lt e = let bad : false ≡ true = e in cc
@@ -59,9 +60,10 @@ only_connections (suc (suc (suc (suc zero)))) r lt e = refl
 only_connections (suc (suc (suc (suc (suc zero))))) r lt e = let bad : false ≡ true = e in cc
 only_connections (suc (suc (suc (suc (suc (suc zero)))))) r lt e = let bad : false ≡ true = e in cc
 only_connections (suc (suc (suc (suc (suc (suc (suc zero))))))) r lt e = let bad : false ≡ true = e in cc
-only_connections (suc (suc (suc (suc (suc (suc (suc (suc j)))))))) r lt e = absurd (omega arith)
+only_connections (suc (suc (suc (suc (suc (suc (suc (suc zero)))))))) r lt e = let bad : false ≡ true = e in cc
+only_connections (suc (suc (suc (suc (suc (suc (suc (suc (suc j))))))))) r lt e = absurd (omega arith)
 
-only_requests : (j : ℕ) (r : Rule) → j < 8 → bytes_eq (slice_index_or rules j r).id (codes "requests") ≡ true → j ≡ 5
+only_requests : (j : ℕ) (r : Rule) → j < 9 → bytes_eq (slice_index_or rules j r).id (codes "requests") ≡ true → j ≡ 5
 only_requests zero r lt e = let bad : false ≡ true = e in cc
 only_requests (suc zero) r lt e = let bad : false ≡ true = e in cc
 only_requests (suc (suc zero)) r lt e = let bad : false ≡ true = e in cc
@@ -70,9 +72,10 @@ only_requests (suc (suc (suc (suc zero)))) r lt e = let bad : false ≡ true = e
 only_requests (suc (suc (suc (suc (suc zero))))) r lt e = refl
 only_requests (suc (suc (suc (suc (suc (suc zero)))))) r lt e = let bad : false ≡ true = e in cc
 only_requests (suc (suc (suc (suc (suc (suc (suc zero))))))) r lt e = let bad : false ≡ true = e in cc
-only_requests (suc (suc (suc (suc (suc (suc (suc (suc j)))))))) r lt e = absurd (omega arith)
+only_requests (suc (suc (suc (suc (suc (suc (suc (suc zero)))))))) r lt e = let bad : false ≡ true = e in cc
+only_requests (suc (suc (suc (suc (suc (suc (suc (suc (suc j))))))))) r lt e = absurd (omega arith)
 
-only_idle : (j : ℕ) (r : Rule) → j < 8 → bytes_eq (slice_index_or rules j r).id (codes "idle") ≡ true → j ≡ 6
+only_idle : (j : ℕ) (r : Rule) → j < 9 → bytes_eq (slice_index_or rules j r).id (codes "idle") ≡ true → j ≡ 6
 only_idle zero r lt e = let bad : false ≡ true = e in cc
 only_idle (suc zero) r lt e = let bad : false ≡ true = e in cc
 only_idle (suc (suc zero)) r lt e = let bad : false ≡ true = e in cc
@@ -81,7 +84,8 @@ only_idle (suc (suc (suc (suc zero)))) r lt e = let bad : false ≡ true = e in 
 only_idle (suc (suc (suc (suc (suc zero))))) r lt e = let bad : false ≡ true = e in cc
 only_idle (suc (suc (suc (suc (suc (suc zero)))))) r lt e = refl
 only_idle (suc (suc (suc (suc (suc (suc (suc zero))))))) r lt e = let bad : false ≡ true = e in cc
-only_idle (suc (suc (suc (suc (suc (suc (suc (suc j)))))))) r lt e = absurd (omega arith)
+only_idle (suc (suc (suc (suc (suc (suc (suc (suc zero)))))))) r lt e = let bad : false ≡ true = e in cc
+only_idle (suc (suc (suc (suc (suc (suc (suc (suc (suc j))))))))) r lt e = absurd (omega arith)
 
 -- a text with this first byte is no option that building adds
 not_auto : (t : Text) (x : ℕ) → slice_index t 0 ≡ x → (x ≡ 104 → ⊥) → (x ≡ 118 → ⊥) → (t ≡ codes "help") ⊎ (t ≡ codes "version") → ⊥
@@ -104,8 +108,8 @@ module _ (c : Command) (m : ArgMatches) (p : IsParsedFrom c m) (is : app_of c �
   rules_are : map rule_of (args_of c) ≡ rules
   rules_are = ap (λ (a : App). a.top.rules) is
 
-  eight : length (args_of c) ≡ 8
-  eight = sym (length-map (args_of c) rule_of) ∙ ap length rules_are
+  nine : length (args_of c) ≡ 9
+  nine = sym (length-map (args_of c) rule_of) ∙ ap length rules_are
 
   at : (k : ℕ) (d : Arg) → k < length (args_of c) → rule_of (slice_index_or (args_of c) k d) ≡ slice_index_or rules k (rule_of d)
   at k d lt = rule_at (args_of c) k d lt ∙ ap (λ rs. slice_index_or rs k (rule_of d)) rules_are
@@ -115,47 +119,47 @@ module _ (c : Command) (m : ArgMatches) (p : IsParsedFrom c m) (is : app_of c �
 
   workers_at : Arg → HasNumberUpTo 16 (found_of m) (codes "workers")
   workers_at d =
-      let lt : 3 < length (args_of c) = omega (arith, eight) in
+      let lt : 3 < length (args_of c) = omega (arith, nine) in
       let id : (slice_index_or (args_of c) 3 d).id.now ≡ codes "workers" = id_at 3 d lt in
       let got = ranged c m p simple names 3 d lt _ (at 3 d lt) refl refl (λ e. absurd cc) 1 16 refl
-      (λ j e low same. only_workers j (rule_of e) (omega (arith, eight)) (rw (id, id_at j e low) at same))
+      (λ j e low same. only_workers j (rule_of e) (omega (arith, nine)) (rw (id, id_at j e low) at same))
       (λ e. let bad : codes "workers" ≡ [] = sym id ∙ e in absurd cc)
       (not_auto _ 119 (rw id refl) (λ e. omega arith) (λ e. omega arith)) in
       number 16 (found_of m) (codes "workers") (rw id at got)
 
   connections_at : Arg → HasNumberUpTo 1000 (found_of m) (codes "connections")
   connections_at d =
-      let lt : 4 < length (args_of c) = omega (arith, eight) in
+      let lt : 4 < length (args_of c) = omega (arith, nine) in
       let id : (slice_index_or (args_of c) 4 d).id.now ≡ codes "connections" = id_at 4 d lt in
       let got = ranged c m p simple names 4 d lt _ (at 4 d lt) refl refl (λ e. absurd cc) 1 1000 refl
-      (λ j e low same. only_connections j (rule_of e) (omega (arith, eight)) (rw (id, id_at j e low) at same))
+      (λ j e low same. only_connections j (rule_of e) (omega (arith, nine)) (rw (id, id_at j e low) at same))
       (λ e. let bad : codes "connections" ≡ [] = sym id ∙ e in absurd cc)
       (not_auto _ 99 (rw id refl) (λ e. omega arith) (λ e. omega arith)) in
       number 1000 (found_of m) (codes "connections") (rw id at got)
 
   requests_at : Arg → HasNumberUpTo 4294967296 (found_of m) (codes "requests")
   requests_at d =
-      let lt : 5 < length (args_of c) = omega (arith, eight) in
+      let lt : 5 < length (args_of c) = omega (arith, nine) in
       let id : (slice_index_or (args_of c) 5 d).id.now ≡ codes "requests" = id_at 5 d lt in
       let got = ranged c m p simple names 5 d lt _ (at 5 d lt) refl refl (λ e. absurd cc) 1 4294967296 refl
-      (λ j e low same. only_requests j (rule_of e) (omega (arith, eight)) (rw (id, id_at j e low) at same))
+      (λ j e low same. only_requests j (rule_of e) (omega (arith, nine)) (rw (id, id_at j e low) at same))
       (λ e. let bad : codes "requests" ≡ [] = sym id ∙ e in absurd cc)
       (not_auto _ 114 (rw id refl) (λ e. omega arith) (λ e. omega arith)) in
       number 4294967296 (found_of m) (codes "requests") (rw id at got)
 
   idle_at : Arg → HasNumberUpTo 86400 (found_of m) (codes "idle")
   idle_at d =
-      let lt : 6 < length (args_of c) = omega (arith, eight) in
+      let lt : 6 < length (args_of c) = omega (arith, nine) in
       let id : (slice_index_or (args_of c) 6 d).id.now ≡ codes "idle" = id_at 6 d lt in
       let got = ranged c m p simple names 6 d lt _ (at 6 d lt) refl refl (λ e. absurd cc) 1 86400 refl
-      (λ j e low same. only_idle j (rule_of e) (omega (arith, eight)) (rw (id, id_at j e low) at same))
+      (λ j e low same. only_idle j (rule_of e) (omega (arith, nine)) (rw (id, id_at j e low) at same))
       (λ e. let bad : codes "idle" ≡ [] = sym id ∙ e in absurd cc)
       (not_auto _ 105 (rw id refl) (λ e. omega arith) (λ e. omega arith)) in
       number 86400 (found_of m) (codes "idle") (rw id at got)
 
   some_arg : Arg
-  some_arg = go (args_of c) eight where
-    go : (xs : List Arg) → length xs ≡ 8 → Arg
+  some_arg = go (args_of c) nine where
+    go : (xs : List Arg) → length xs ≡ 9 → Arg
     go [] e = absurd cc
     go (x ∷ xs) e = x
 

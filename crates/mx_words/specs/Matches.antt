@@ -1,5 +1,5 @@
 -- What is known of the matches of a parse that succeeded.
-use Rattle.std.specs.Prelude.{◌≡◌, ◌≤◌, ◌<◌, ◌^◌, ◌⊎◌, ℕ, List, [], ◌++◌, Some, Result, Ok, Err, codes, option_map, string_bytes, ⊤}
+use Rattle.std.specs.Prelude.{◌≡◌, ◌≤◌, ◌<◌, ◌^◌, ℕ, List, [], ◌++◌, Some, Result, Ok, Err, codes, option_map, string_bytes, ⊤}
 use Rattle.std.specs.Str.Parse.{IsNumeral, without_leading_plus}
 use Rattle.clap.specs.Words.{Text, fault_of, matches_of, one_text, rows_of}
 use Rattle.clap.specs.declared.error.kind.ErrorKind.{ErrorKind}
@@ -45,6 +45,7 @@ said_by_values v = record {
   requests = v.requests;
   idle = v.idle;
   until_eof = v.until_eof;
+  journal = option_map (λ s. s.now) v.journal;
 }
 
 -- why the values make no run, as a text

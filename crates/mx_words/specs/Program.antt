@@ -36,7 +36,8 @@ rules = text_rule (codes "users") true
     ∷ number_rule (codes "connections") (pos 1000) (codes "64")
     ∷ number_rule (codes "requests") (pos 4294967296) (codes "1000")
     ∷ number_rule (codes "idle") (pos 86400) (codes "60")
-    ∷ flag_rule (codes "until-eof") ∷ []
+    ∷ flag_rule (codes "until-eof")
+    ∷ text_rule (codes "journal") false ∷ []
 
 abbrev pub program : App
 program = record bare { top = record bare.top { rules = rules } }

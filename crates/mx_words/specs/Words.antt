@@ -1,5 +1,6 @@
 -- What the words of the command line ask.
-use Rattle.std.specs.Prelude.{◌≡◌, ◌≤◌, ◌⊎◌, ℕ, Bool, false, List, [], ◌∷◌, ◌++◌, Option, Some, None, Result, Ok, Err, codes, if◌then◌else◌, string_bytes, ⊤}
+use Rattle.std.specs.Prelude.{◌≡◌, ◌≤◌, ◌⊎◌, ℕ, Bool, false, List, [], ◌∷◌, ◌++◌, Option, Some, None, Result, Ok, Err, String, codes, if◌then◌else◌, option_map, string_bytes, ⊤}
+use Rattle.std.specs.declared.alloc.Global.{Global}
 use Rattle.std.specs.Str.{bytes_eq}
 use Rattle.std.specs.Str.Parse.{digits_value, without_leading_plus}
 use Rattle.clap.specs.Words.{Row, Text, fault_of, first_of, matches_of, one_of}
@@ -16,7 +17,7 @@ use Rattle.mx_words.specs.declared.words.WordsFault.{WordsFault}
 use Rattle.mx_words.specs.declared.words.WordsFault.TheVariants as faults
 
 -- the name of the users file, where the program listens, the writers a stream, the connections at once, the requests of each, the seconds that
--- one may be silent, and whether the program ends with its standard input
+-- one may be silent, whether the program ends with its standard input, and the name of the journal
 pub record Said : Type 0 where
   pub users : Text
   pub listen : Option Text
@@ -25,6 +26,7 @@ pub record Said : Type 0 where
   pub requests : ℕ
   pub idle : ℕ
   pub until_eof : Bool
+  pub journal : Option Text
 
 -- what words ask: a run, help, or the version; or `clap` refuses them, or they make no run, and why
 pub data Meaning : Type 0 where
@@ -66,21 +68,21 @@ is_set (Some text) = bytes_eq text (codes "true")
 is_set None = false
 
 -- the numbers of a run
-abbrev pub said_at : Text → ℕ → ℕ → ℕ → ℕ → Bool → Result (Option Text) Text → Result Said Text
-said_at users workers connections requests idle until_eof (Ok listen) =
-    Ok (record { users = users; listen = listen; workers = workers; connections = connections; requests = requests; idle = idle; until_eof = until_eof })
-said_at users workers connections requests idle until_eof (Err why) = Err why
+abbrev pub said_at : Text → ℕ → ℕ → ℕ → ℕ → Bool → Option Text → Result (Option Text) Text → Result Said Text
+said_at users workers connections requests idle until_eof journal (Ok listen) =
+    Ok (record { users = users; listen = listen; workers = workers; connections = connections; requests = requests; idle = idle; until_eof = until_eof; journal = journal })
+said_at users workers connections requests idle until_eof journal (Err why) = Err why
 
-abbrev pub said_with : Option Text → Option Text → Option Text → ℕ → ℕ → ℕ → ℕ → Bool → Result Said Text
-said_with (Some users) (Some word) listen workers connections requests idle until_eof = said_at users workers connections requests idle until_eof (way_of word listen)
-said_with (Some users) None listen workers connections requests idle until_eof = Err (codes "--mode is missing")
-said_with None word listen workers connections requests idle until_eof = Err (codes "--users is missing")
+abbrev pub said_with : Option Text → Option Text → Option Text → ℕ → ℕ → ℕ → ℕ → Bool → Option Text → Result Said Text
+said_with (Some users) (Some word) listen workers connections requests idle until_eof journal = said_at users workers connections requests idle until_eof journal (way_of word listen)
+said_with (Some users) None listen workers connections requests idle until_eof journal = Err (codes "--mode is missing")
+said_with None word listen workers connections requests idle until_eof journal = Err (codes "--users is missing")
 
 -- what the matches of `clap` say
 abbrev pub said_of : List Row → Result Said Text
 said_of rows = said_with (first_of (codes "users") rows) (first_of (codes "mode") rows) (first_of (codes "listen") rows)
     (number_in (one_of (codes "workers") rows)) (number_in (one_of (codes "connections") rows)) (number_in (one_of (codes "requests") rows)) (number_in (one_of (codes "idle") rows))
-    (is_set (first_of (codes "until-eof") rows))
+    (is_set (first_of (codes "until-eof") rows)) (first_of (codes "journal") rows)
 
 -- ---- all words
 
@@ -104,6 +106,10 @@ asked_of words = asked_by (fault_of program words) (said_of (matches_of program 
 
 -- ---- what was read
 
+-- the name of a journal
+abbrev pub journal_of : Option (String Global) → Option Text
+journal_of name = option_map string_bytes name
+
 -- the address of a mode
 abbrev pub address_of : Mode → Option Text
 address_of mode.Pipe = None
@@ -111,7 +117,7 @@ address_of (mode.Serve address) = Some (string_bytes address)
 
 -- what the words that were read say
 abbrev pub said_by : Words → Said
-said_by w = record { users = string_bytes w.users; listen = address_of w.mode; workers = w.workers; connections = w.connections; requests = w.requests; idle = w.idle; until_eof = w.until_eof }
+said_by w = record { users = string_bytes w.users; listen = address_of w.mode; workers = w.workers; connections = w.connections; requests = w.requests; idle = w.idle; until_eof = w.until_eof; journal = journal_of w.journal }
 
 -- what was read is what the words ask; nothing is told where memory is wanting
 abbrev pub IsRead : Result Asked WordsFault → Meaning → Type 0
@@ -141,4 +147,4 @@ pipe_words file = codes "--users" ∷ file ∷ codes "--mode" ∷ codes "pipe" �
 
 -- what they say
 abbrev pub pipe_said : Text → Said
-pipe_said file = record { users = file; listen = None; workers = 1; connections = 64; requests = 1000; idle = 60; until_eof = false }
+pipe_said file = record { users = file; listen = None; workers = 1; connections = 64; requests = 1000; idle = 60; until_eof = false; journal = None }

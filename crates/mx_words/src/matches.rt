@@ -18,6 +18,8 @@ pub(crate) struct Values<'a> {
     pub requests: u64,
     pub idle: u64,
     pub until_eof: bool,
+    /// The name of the journal, if there is one.
+    pub journal: Option<&'a str>,
 }
 
 /// Why words that `clap` takes make no run: a text that the program has, and the word that it is of, if it is of one.
@@ -47,6 +49,7 @@ pub(crate) fn read_matches<'a>(matches: &ArgMatches<'a>) -> Result<Values<'a>, W
         requests: number(matches, "requests"),
         idle: number(matches, "idle"),
         until_eof: is_set(text(matches, "until-eof")),
+        journal: text(matches, "journal"),
     })
 }
 

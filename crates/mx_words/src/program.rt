@@ -57,6 +57,13 @@ pub(crate) fn program<'a>(alloc: Global) -> Result<Command<'a>, AllocError>
             alloc,
             "until-eof",
             "In mode serve, end once the standard input has ended",
+        ))?
+        .arg(text_arg(
+            alloc,
+            "journal",
+            false,
+            "FILE",
+            "The journal: what is stored is kept there, and is there after a restart",
         ))
 }
 

@@ -1,8 +1,8 @@
 //! Reading the words of the command line.
-ghost use Rattle.std.specs.Prelude.{◌≡◌, IfOk, map, string_bytes};
+ghost use Rattle.std.specs.Prelude.{◌≡◌, IfOk, map, option_map, string_bytes};
 ghost use Rattle.clap.specs.Words.{found_of, kind_of, rows_of};
 ghost use Rattle.mx_words.specs.Matches.{HasNumbers, IsAskedBy, IsRunBy, said_by_values, why_of};
-ghost use Rattle.mx_words.specs.Words.{AreWithin, IfRun, IsRead, asked_of, said_by, said_of};
+ghost use Rattle.mx_words.specs.Words.{AreWithin, IfRun, IsRead, asked_of, journal_of, said_by, said_of};
 
 use crate::matches::{Values, Wrong, read_matches};
 use crate::program::program;
@@ -13,7 +13,7 @@ use std::alloc::{AllocError, Global};
 
 /// Reads the words of the command line, those after the program's name: `--users FILE`, `--mode pipe` or `--mode serve` (both needed),
 /// `--listen ADDRESS`, `--workers N` (1 to 16, 1 where it isn't given), `--connections N` (1 to 1,000, 64 where it isn't given),
-/// `--requests N` (1 to 4,294,967,296, 1,000 where it isn't given)  `--idle N` (1 to 86,400, 60 where it isn't given) and `--until-eof`, in any order. Mode
+/// `--requests N` (1 to 4,294,967,296, 1,000 where it isn't given), `--idle N` (1 to 86,400, 60 where it isn't given), `--until-eof` and `--journal FILE`, in any order. Mode
 /// `serve` needs `--listen`, and mode `pipe` refuses it. No option is given twice. A value may stand after `=` in its option's word, and one that begins with `-` and has more stands only
 /// there. A number is decimal digits, before which a plus or zeros may stand. `--help` or `-h` asks for the help, and `--version` or `-V`
 /// for the version, where no word before it is refused.
@@ -52,6 +52,7 @@ fn owned(alloc: Global, values: Values) -> Result<Words, AllocError>
         Some(address) => Mode::Serve(String::from_str(alloc, address)?),
         None => Mode::Pipe,
     };
+    let journal = journal_of(alloc, values.journal)?;
     Ok(Words {
         users,
         mode,
@@ -60,7 +61,18 @@ fn owned(alloc: Global, values: Values) -> Result<Words, AllocError>
         requests: values.requests,
         idle: values.idle,
         until_eof: values.until_eof,
+        journal,
     })
+}
+
+/// The name of a journal as a text of its own.
+fn journal_of(alloc: Global, name: Option<&str>) -> Result<Option<String>, AllocError>
+    ensures { IfOk result (λ own. journal_of own ≡ option_map (λ s. s.now) name.entry) }
+{
+    match name {
+        Some(name) => Ok(Some(String::from_str(alloc, name)?)),
+        None => Ok(None),
+    }
 }
 
 /// Why there is no run, as one text.

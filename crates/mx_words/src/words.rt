@@ -27,6 +27,8 @@ pub struct Words {
     pub idle: u64,
     /// Whether the program ends once its standard input has ended.
     pub until_eof: bool,
+    /// The name of the journal, where stores are kept in one.
+    pub journal: Option<String>,
 }
 
 /// What the words of the command line ask.

@@ -38,7 +38,7 @@ store_of place k first xs = record { writer = k; first = first; items = placed_f
 abbrev pub with_store : {I : Type 0} → Placing I → ℕ → List (Stored I) → ℕ → List I → List (Stored I)
 with_store place k mine first xs = mine ++ store_of place k first xs ∷ []
 
--- decided items are 1 to 256, and a lawful store after the own stores wherever they may be placed
+-- decided items are 1 to 512, and a lawful store after the own stores wherever they may be placed
 pub record CanBeStored {I : Type 0} (law : Law I) (place : Placing I) (k : ℕ) (mine : List (Stored I)) (xs : List I) : Type 0 where
   pub some_items : 1 ≤ length xs
   pub few : length xs ≤ most_drawn

@@ -7,7 +7,7 @@ use mx_ids::Memory;
 pub struct Written {
     /// The first position of the store; where nothing is stored, the number that the decision kept.
     pub first: u64,
-    /// The number of items stored, 1 to 256, or 0 where nothing is stored.
+    /// The number of items stored, 1 to 512, or 0 where nothing is stored.
     pub count: u16,
     /// The number of own stores by which it was decided.
     pub lane: u64,

@@ -13,7 +13,7 @@ use std::sync::Wait;
 /// What a draft was made into.
 #[derive(Debug, Drop)]
 pub enum Made<I> {
-    /// Items to store, 1 to 256 of them.
+    /// Items to store, 1 to 512 of them.
     Items(Prepared<I>),
     /// Nothing is to be stored: the request was stored before at this position, or it stores nothing and this is 0.
     Kept(u64),
@@ -94,6 +94,6 @@ pub trait Folds: Sized + Drop {
         ensures lost { OnErr result (own self.new ≡ own self.old) }
         ensures sure { loses ≡ false → IsOk result };
 
-    // Decided items are 1 to 256, and a lawful store after the own list wherever they may be placed.
+    // Decided items are 1 to 512, and a lawful store after the own list wherever they may be placed.
     ghost lawful: { AreLawful Self.Item.lawful Self.Item.placed decides };
 }

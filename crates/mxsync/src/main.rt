@@ -1,9 +1,9 @@
 //! The program: the sync engine of a Matrix homeserver for local users (Client-Server API v1.11).
 //!
-//! `main` has no decision of its own. It makes the objects of the system (the files, the standard streams, the clock,
-//! a TCP listener and a spawner of threads), reads the words of the command line, and hands all of them to `run` of
+//! `main` has no decision of its own. It makes the objects of the system (the files, the journals, the standard streams, the
+//! clock, a TCP listener and a spawner of threads), reads the words of the command line, and hands all of them to `run` of
 //! `mx_pool`, whose contract says what the run does. The status of the process is the number of the status of the
-//! run, 0 to 6; a line to standard error says why it isn't 0.
+//! run, 0 to 7; a line to standard error says why it isn't 0.
 //!
 //! What no contract covers is what stands in this file and the adapters of `mx_outside`. `main` is only run, on the
 //! sample session.
@@ -12,6 +12,7 @@
 #![tactic(auto)]
 
 use mx_ids::Memory;
+use mx_log::HostLogs;
 use mx_outside::{HostClock, HostFiles, Spawner, StdErr, StdIn, StdOut, TcpAccept};
 use mx_pool::{Status, run, tell};
 use std::alloc::AllocError;
@@ -30,6 +31,7 @@ fn main(rt: HostRuntime) -> ExitCode {
         Err(refused) => return short(&mut errors, refused.into()),
     };
     let mut files = HostFiles::new(rt);
+    let mut logs = HostLogs::new(rt);
     let mut input = StdIn::new(rt.stdin());
     let mut output = StdOut::new(rt.stdout());
     let mut clock = HostClock::new(rt);
@@ -39,6 +41,7 @@ fn main(rt: HostRuntime) -> ExitCode {
         rt.alloc(),
         words.as_slice(),
         &mut files,
+        &mut logs,
         &mut input,
         &mut output,
         &mut errors,

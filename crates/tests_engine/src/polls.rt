@@ -40,6 +40,7 @@ fn answered_at(
         since,
         filter: FilterAsk::Absent,
         full_state,
+        after: false,
         timeout,
     };
     let (reading, told) = told_at(rt, alloc, engine, pass, &who, ask);

@@ -37,6 +37,7 @@ fn begun(
         since: Some(pass.fronts()),
         filter: FilterAsk::Absent,
         full_state: false,
+        after: false,
         timeout: 25,
     };
     let begun = begin(rt, alloc, engine, pass, &who, ask, 1000);

@@ -94,6 +94,7 @@ fn sync() -> Ask
         since: read_sync_token("s0_0_1_0_0").ok(),
         filter: FilterAsk::Absent,
         full_state: false,
+        after: false,
         timeout: 0,
     }
 }

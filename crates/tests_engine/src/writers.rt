@@ -31,6 +31,7 @@ fn front(
             since: None,
             filter: FilterAsk::Absent,
             full_state: false,
+            after: false,
             timeout: 0,
         },
     )

@@ -2,7 +2,8 @@
 //!
 //! Most are sessions as tables: a line is a call of a user, and the line below it the answer, status and body. They
 //! show what each route answers, which refusal comes first, how a connection and a run end, two connections at once of
-//! which one write is held between its draw and its store, and three connections on two seats.
+//! which one write is held between its draw and its store, and three connections on two seats; a client that goes away while its
+//! sync waits; and how a run goes on from a journal, or is refused.
 //!
 //! Begin with `sessions.rt`, which has the form of the tables, then `tables.rt` with `rooms.rt`, and `sync_tables.rt`
 //! with `syncs.rt`. `at_once.rt` has the two connections, `seats.rt` the three.
@@ -16,6 +17,10 @@ mod default_rules;
 mod ends;
 #[cfg(test)]
 mod hostile;
+#[cfg(test)]
+mod journals;
+#[cfg(test)]
+mod leaving;
 #[cfg(test)]
 mod make;
 #[cfg(test)]

@@ -1,5 +1,6 @@
 //! Runs of the program over sources, sinks and files in memory, and the bytes of answers.
 use mx_ids::Memory;
+use mx_log::MemLogs;
 use mx_outside::{MemFile, MemFiles, MemListener, MemSink, MemSource, Spawner, StepClock};
 use mx_pool::run;
 use std::alloc::Global;
@@ -23,6 +24,9 @@ pub struct Case<'a> {
     pub piece: usize,
     pub failing_read: u64,
     pub failing_write: u64,
+    /// What stands in the journal, and how many calls to it don't fail.
+    pub journal: &'a str,
+    pub kept: u64,
 }
 
 /// A run whose words and users file are of their form, where nothing fails.
@@ -35,6 +39,8 @@ pub fn usual_case(input: &str) -> Case {
         piece: 1000,
         failing_read: NEVER,
         failing_write: NEVER,
+        journal: "",
+        kept: NEVER,
     }
 }
 
@@ -113,19 +119,24 @@ pub fn status_of<R: Abort + Wait + rt::Clock + Threads + Copy + Drop + Send + 's
     errors: &mut MemSink,
 ) -> Result<u8, Memory> {
     let mut files = files(alloc, case.users)?;
+    let mut logs = MemLogs::new(Vec::from_slice(alloc, case.journal.as_bytes())?, case.kept);
     let mut input = source(alloc, case)?;
-    let status = status_on(rt, alloc, words, &mut files, &mut input, output, errors);
+    let status = status_on(
+        rt, alloc, words, &mut files, &mut logs, &mut input, output, errors,
+    );
     drop(input);
+    drop(logs);
     drop(files);
     Ok(status)
 }
 
-/// The status of a run with these words, over these files and this input.
+/// The status of a run with these words, over these files, this journal and this input.
 fn status_on<R: Abort + Wait + rt::Clock + Threads + Copy + Drop + Send + 'static>(
     rt: &R,
     alloc: Global,
     words: &[String],
     files: &mut MemFiles,
+    logs: &mut MemLogs,
     input: &mut MemSource,
     output: &mut MemSink,
     errors: &mut MemSink,
@@ -139,6 +150,7 @@ fn status_on<R: Abort + Wait + rt::Clock + Threads + Copy + Drop + Send + 'stati
         alloc,
         words,
         files,
+        logs,
         input,
         output,
         errors,

@@ -1,6 +1,11 @@
 //! Two connections and a gate that wait for one another: each step that one of them makes is counted, and each waits for a number of steps.
+use mx_aims::{Rooms, rooms};
+use mx_engine::Outside;
+use mx_entries::{Accounts, Receipts, accounts, receipts};
+use mx_ids::Memory;
 use mx_outside::{MemSource, Put, Sink, Source, Took};
 use mx_writers::Gate;
+use std::alloc::Global;
 use std::sync::Arc;
 use std::sync::atomic::{AtomicU64, Ordering};
 use std::{thread, vec};
@@ -173,4 +178,32 @@ impl Gate for Holding {
             let _ = self.meeting.wait_for(self.steps);
         }
     }
+}
+
+impl Outside for Holding {
+    ghost use Rattle.std.specs.Prelude.{refl};
+
+    type Events = Rooms;
+
+    type Receipts = Receipts;
+
+    type Accounts = Accounts;
+
+    fn events(&self, alloc: Global, writer: u8) -> Result<Rooms, Memory> {
+        rooms(alloc, writer)
+    }
+
+    fn receipts(&self, alloc: Global, writer: u8) -> Result<Receipts, Memory> {
+        Ok(receipts(alloc, writer))
+    }
+
+    fn accounts(&self, alloc: Global, writer: u8) -> Result<Accounts, Memory> {
+        Ok(accounts(alloc, writer))
+    }
+
+    ghost decides_events = { refl };
+
+    ghost decides_receipts = { refl };
+
+    ghost decides_accounts = { refl };
 }

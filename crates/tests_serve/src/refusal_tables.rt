@@ -190,7 +190,7 @@ PUT /rooms/!0-1:example.org/send/m.room.message/t1 tok_b1 {"body":"hi","msgtype"
 "#;
 
 /// Events that are too large, told behind a room that isn't there and a repeat, and before all else: `~` stands for 65,536 letters,
-/// and `^` for 250 entries of state.
+/// and `^` for 506 entries of state.
 pub const TOO_LARGE: &str = r#"
 POST /createRoom tok_a1 {}
 200 {"room_id":"!0-1:example.org"}

@@ -51,7 +51,7 @@ fn the_first_refusal_of_a_push_rule_is_told(rt: HostRuntime) -> Result<(), Fail>
 /// The table with what its marks stand for.
 fn filled(alloc: Global, table: &str) -> Result<String, Memory> {
     let letters = "x".repeat(alloc, 65_536)?;
-    let entries = r#"{"content":{},"type":"a"},"#.repeat(alloc, 250)?;
+    let entries = r#"{"content":{},"type":"a"},"#.repeat(alloc, 506)?;
     let mut filled = String::new(alloc);
     'marks: for mark in table.chars() {
         match mark {

@@ -88,52 +88,52 @@ fn push_creation(
     Ok(())
 }
 
-/// Blocks of 255, 256 and 257 events.
+/// Blocks of 511, 512 and 513 events.
 fn three_blocks(alloc: Global) -> Result<String, Memory> {
     let mut table = String::new(alloc);
     push_creation(
         alloc,
         &mut table,
-        249,
+        505,
         "200 {\"room_id\":\"!0-1:example.org\"}",
     )?;
     push_creation(
         alloc,
         &mut table,
-        250,
-        "200 {\"room_id\":\"!0-256:example.org\"}",
+        506,
+        "200 {\"room_id\":\"!0-512:example.org\"}",
     )?;
     let refusal =
         "400 {\"errcode\":\"M_INVALID_PARAM\",\"error\":\"invalid parameter: initial_state\"}";
-    push_creation(alloc, &mut table, 251, refusal)?;
+    push_creation(alloc, &mut table, 507, refusal)?;
     Ok(table)
 }
 
 #[test]
-fn a_room_is_created_by_at_most_256_events(rt: HostRuntime) -> Result<(), Fail> {
+fn a_room_is_created_by_at_most_512_events(rt: HostRuntime) -> Result<(), Fail> {
     let alloc = rt.alloc();
     let table = three_blocks(alloc)?;
     holds(&rt, alloc, table.as_str())?;
     Ok(())
 }
 
-/// A block of 256 events, and a sync since the position behind it.
+/// A block of 512 events, and a sync since the position behind it.
 fn one_block(alloc: Global) -> Result<String, Memory> {
     let mut table = String::new(alloc);
     push_creation(
         alloc,
         &mut table,
-        250,
+        506,
         "200 {\"room_id\":\"!0-1:example.org\"}",
     )?;
     table.push_str(
-        "GET /sync?since=s257_0_0_0_0 tok_a1\n400 {\"errcode\":\"M_INVALID_PARAM\",\"error\":\"token ahead: 257 > 256\"}\n",
+        "GET /sync?since=s513_0_0_0_0 tok_a1\n400 {\"errcode\":\"M_INVALID_PARAM\",\"error\":\"token ahead: 513 > 512\"}\n",
     )?;
     Ok(table)
 }
 
 #[test]
-fn a_block_of_256_events_moves_the_front_at_once(rt: HostRuntime) -> Result<(), Fail> {
+fn a_block_of_512_events_moves_the_front_at_once(rt: HostRuntime) -> Result<(), Fail> {
     let alloc = rt.alloc();
     let table = one_block(alloc)?;
     holds(&rt, alloc, table.as_str())?;

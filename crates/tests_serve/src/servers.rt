@@ -3,6 +3,7 @@ use crate::make::{NEVER, USERS, files, sink};
 use crate::sessions::read_table;
 use crate::whole_sink::WholeSink;
 use mx_ids::Memory;
+use mx_log::MemLogs;
 use mx_outside::{
     Accepted, Listened, Listener, MemFiles, MemListener, MemSink, MemSource, Spawner, StepClock,
 };
@@ -123,6 +124,7 @@ where
     L::In: Drop + Send + 'static,
     L::Out: Drop + Send + 'static,
 {
+    let mut logs = MemLogs::new(Vec::new(alloc), 0);
     let mut output = sink(alloc, NEVER)?;
     let mut input = MemSource::new(Vec::new(alloc), 1, Vec::new(alloc));
     let mut clock = StepClock::new(1000, 1);
@@ -131,6 +133,7 @@ where
         alloc,
         words,
         files,
+        &mut logs,
         &mut input,
         &mut output,
         errors,
@@ -146,12 +149,13 @@ where
     drop(ran);
     drop(input);
     drop(output);
+    drop(logs);
     Ok(status)
 }
 
 #[test]
 fn a_server_serves_all_that_come(rt: HostRuntime) -> Result<(), Fail> {
-    let told = "mxsync: listening on here\n";
+    let told = "mxsync: listening on here, and keeps nothing: no journal is named\n";
     assert_eq!(rt; served(&rt, rt.alloc(), NEVER, NEVER, told)?, (0, 2));
     Ok(())
 }
@@ -161,7 +165,8 @@ fn a_listener_that_fails_ends_a_server(rt: HostRuntime) -> Result<(), Fail> {
     let alloc = rt.alloc();
     let unbound = "mxsync: listener: here: can't be bound\n";
     assert_eq!(rt; served(&rt, alloc, 0, NEVER, unbound)?, (6, 0));
-    let bound = "mxsync: listening on here\nmxsync: listener\n";
+    let bound =
+        "mxsync: listening on here, and keeps nothing: no journal is named\nmxsync: listener\n";
     assert_eq!(rt; served(&rt, alloc, 1, NEVER, bound)?, (6, 0));
     assert_eq!(rt; served(&rt, alloc, 2, NEVER, bound)?, (6, 1));
     Ok(())
@@ -170,7 +175,8 @@ fn a_listener_that_fails_ends_a_server(rt: HostRuntime) -> Result<(), Fail> {
 #[test]
 fn a_job_that_is_refused_ends_a_server(rt: HostRuntime) -> Result<(), Fail> {
     let alloc = rt.alloc();
-    let told = "mxsync: listening on here\nmxsync: listener\n";
+    let told =
+        "mxsync: listening on here, and keeps nothing: no journal is named\nmxsync: listener\n";
     assert_eq!(rt; served(&rt, alloc, NEVER, 0, told)?, (6, 0));
     assert_eq!(rt; served(&rt, alloc, NEVER, 1, told)?, (6, 1));
     Ok(())
@@ -227,7 +233,7 @@ fn a_server_is_told_the_address_and_the_silence_of_its_words(rt: HostRuntime) ->
         silence: 0,
     };
     let mut spawner = Spawner::in_caller(Vec::new(alloc));
-    let told = "mxsync: listening on here\n";
+    let told = "mxsync: listening on here, and keeps nothing: no journal is named\n";
     let status = status_of(&rt, alloc, &mut listener, &mut spawner, told);
     let bound = listener.bound;
     let silence = listener.silence;

@@ -80,7 +80,7 @@ fn expect_served<R: Abort + Wait + rt::Clock + Threads + Copy + Drop + Send + 's
     let words = words(alloc, &first, workers)?;
     let mut listener = MemListener::new(pairs, Vec::new(alloc));
     let mut spawner = Spawner::in_caller(Vec::new(alloc));
-    let told = "mxsync: listening on here\n";
+    let told = "mxsync: listening on here, and keeps nothing: no journal is named\n";
     let status = status_by(
         rt,
         alloc,

@@ -17,13 +17,11 @@ seats-preserved g c =
           c.merge.ensures.amount c.meet.ensures.own c.meet.ensures.other i.4 seat.served,
     )
 
-pub meet-requires : goal.meet-requires
-meet-requires g c =
+pub meet-requires-clause-own : goal.meet-requires-clause-own
+meet-requires-clause-own g c = subst (λ e. Ties e c.seats.pass) (sym (c.engine.ensures ∙ ap (λ s. s.engine) c.server.ensures)) c.seats.invariant.0
+
+pub meet-requires-clause-other : goal.meet-requires-clause-other
+meet-requires-clause-other g c =
     let seat = c.in-Some.seat in
     let pool = c.args.pool.now in
-    let is = sym (c.engine.ensures ∙ ap (λ s. s.engine) c.server.ensures) in record {
-      ties = (
-        subst (λ e. Ties e c.seats.pass) is c.seats.invariant.0,
-        subst (λ e. Ties e seat.pass) is (ties_at pool.server g.N.Seating.service g.N.Seating.places seat.pass pool.is seat.ties),
-      );
-    }
+    subst (λ e. Ties e seat.pass) (sym (c.engine.ensures ∙ ap (λ s. s.engine) c.server.ensures)) (ties_at pool.server g.N.Seating.service g.N.Seating.places seat.pass pool.is seat.ties)

@@ -1,5 +1,7 @@
+use denote.Param.Send.{sendable}
 use Rattle.std.proofs.Common.{refl}
 use Rattle.mx_outside.specs.Causes.{Rose}
+use Rattle.mx_restore.proofs.Crosses.{accounts_send, rooms_send}
 use Rattle.mx_serve.specs.OfEngine.Shown.{site_of, stops_of, stores_of}
 use Rattle.mx_pool.specs.Connections.{change, ends_by, service_of}
 use Rattle.mx_pool.specs.Runs.{arrivals}
@@ -34,3 +36,9 @@ pub returns-in-Ok-clause-closed : goal.returns-in-Ok-clause-closed
 returns-in-Ok-clause-closed g c =
     let done = c.serve-served in
     server_closed (HasNoneLeft (g.L.Listener.left done.new.listener)) done.result.0 c.server_status.result c.server_status.ensures done.ensures.closed
+
+pub serve-served-requires-send-G-Events : goal.serve-served-requires-send-G-Events
+serve-served-requires-send-G-Events g c κs within = search (rooms_send, sendable) depth 10
+
+pub serve-served-requires-send-G-Accounts : goal.serve-served-requires-send-G-Accounts
+serve-served-requires-send-G-Accounts g c κs within = search (accounts_send, sendable) depth 10

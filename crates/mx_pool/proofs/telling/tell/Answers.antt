@@ -17,3 +17,6 @@ returns-in-Memory g c = rw c.in-Memory.is c.put_text-in-Memory.ensures
 
 pub returns-in-Listener : goal.returns-in-Listener
 returns-in-Listener g c = rw c.in-Listener.is c.put_line-in-Listener.ensures
+
+pub returns-in-Journal : goal.returns-in-Journal
+returns-in-Journal g c = rw c.in-Journal.is c.put_journal_line.ensures

@@ -11,4 +11,5 @@ returns c =
     let connections = added _ _ _ c.in_ok-arg-5.ensures c.number_arg-2.ensures.local workers c.number_arg-2.ensures.rule in
     let requests = added _ _ _ c.in_ok-arg-6.ensures c.number_arg-3.ensures.local connections c.number_arg-3.ensures.rule in
     let idle = added _ _ _ c.in_ok-arg-7.ensures c.number_arg-4.ensures.local requests c.number_arg-4.ensures.rule in
-    IfOk-weaker c.arg-8.result _ _ (λ whole adds. added _ _ _ adds c.flag_arg.ensures.local idle c.flag_arg.ensures.rule) c.arg-8.ensures
+    let until = added _ _ _ c.in_ok-arg-8.ensures c.flag_arg.ensures.local idle c.flag_arg.ensures.rule in
+    IfOk-weaker c.arg-9.result _ _ (λ whole adds. added _ _ _ adds c.text_arg-4.ensures.local until c.text_arg-4.ensures.rule) c.arg-9.ensures

@@ -12,11 +12,14 @@ use Rattle.mx_engine.proofs.held.Engine.meet_all.Goals as goal
 pub others-init : goal.others-init
 others-init g c = (c.requires.own, refl, c.requires.others, all_self (stores_of c.args.pass.now), ([], sym (append-nil c.args.others.items), tt))
 
-pub meet-requires : goal.meet-requires
-meet-requires g c =
+pub meet-requires-clause-own : goal.meet-requires-clause-own
+meet-requires-clause-own g c = c.others.invariant.0
+
+pub meet-requires-clause-other : goal.meet-requires-clause-other
+meet-requires-clause-other g c =
     let known : AllByRecursion (λ (p : EnginePass). Ties c.args.self.now p) (c.pop.new.self.items ++ c.in-Some.other ∷ []) =
     subst (AllByRecursion (λ (p : EnginePass). Ties c.args.self.now p)) c.in-Some.ensures.items c.others.invariant.2 in
-    record { ties = (c.others.invariant.0, (all_split (λ (p : EnginePass). Ties c.args.self.now p) c.pop.new.self.items c.in-Some.other known).1) }
+    (all_split (λ (p : EnginePass). Ties c.args.self.now p) c.pop.new.self.items c.in-Some.other known).1
 
 pub others-preserved : goal.others-preserved
 others-preserved g c =

@@ -1,4 +1,5 @@
 use Rattle.std.proofs.Common.{◌∙◌}
+use Rattle.mx_core.proofs.Histories.{begins_self}
 use Rattle.mx_engine.proofs.Known.{known_is, taken_same, valid_is}
 use Rattle.mx_engine.specs.declared.held.EnginePass.{EnginePass}
 use Rattle.mx_engine.proofs.held.Engine.take_in.Goals as goal
@@ -47,6 +48,15 @@ returns-clause-ties g c = record {
     accounts = c.take_accounts.ensures.taken;
   };
 }
+
+pub returns-in_err-take_events-clause-begins : goal.returns-in_err-take_events-clause-begins
+returns-in_err-take_events-clause-begins g c = record { events = c.take_events.ensures.begins; receipts = begins_self _; accounts = begins_self _ }
+
+pub returns-in_err-take_receipts-clause-begins : goal.returns-in_err-take_receipts-clause-begins
+returns-in_err-take_receipts-clause-begins g c = record { events = c.take_events.ensures.begins; receipts = c.take_receipts.ensures.begins; accounts = begins_self _ }
+
+pub returns-clause-begins : goal.returns-clause-begins
+returns-clause-begins g c = record { events = c.take_events.ensures.begins; receipts = c.take_receipts.ensures.begins; accounts = c.take_accounts.ensures.begins }
 
 pub returns-clause-known : goal.returns-clause-known
 returns-clause-known g c =

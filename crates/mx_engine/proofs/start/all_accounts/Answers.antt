@@ -1,0 +1,7 @@
+use Rattle.mx_engine.proofs.Fresh.{one_fold_more}
+use Rattle.mx_engine.proofs.start.all_accounts.Goals as goal
+
+pub writers-preserved : goal.writers-preserved
+writers-preserved g c =
+    one_fold_more g.G.Accounts.Folds.writer g.G.Accounts.Folds.own c.writers.writer c.writers.all c.push.new.self c.in_ok-accounts.field-0 c.writers.invariant
+    c.in_ok-accounts.ensures.0 c.in_ok-accounts.ensures.1 c.in_ok-push.ensures.ok

@@ -1,0 +1,6 @@
+pub mod Crosses
+mod Cutting
+mod Making
+mod Ones
+mod Pieces
+mod Taking
