@@ -24,7 +24,7 @@ module _ (site : Site) (now : ℕ) (who : Who) where
       → ((room : List ℕ) (membership not_membership : Option (List ℕ)) → a ≡ ask.Members room membership not_membership → ⊥)
       → ((room event : List ℕ) → a ≡ ask.OneEvent room event → ⊥)
       → ((room : List ℕ) (backward : Bool) (from to : Option Bound) (limit : ℕ) (filter : Filter) → a ≡ ask.Messages room backward from to limit filter → ⊥)
-      → ((since : Option SyncToken) (filter : FilterAsk) (full : Bool) (timeout : ℕ) → a ≡ ask.Sync since filter full timeout → ⊥)
+      → ((since : Option SyncToken) (filter : FilterAsk) (full after : Bool) (timeout : ℕ) → a ≡ ask.Sync since filter full after timeout → ⊥)
       → ((id : List ℕ) → a ≡ ask.GetFilter id → ⊥)
       → ((room : Option (List ℕ)) (kind : List ℕ) → a ≡ ask.GetAccount room kind → ⊥)
       → ((room : List ℕ) → a ≡ ask.Tags room → ⊥)
@@ -49,7 +49,7 @@ module _ (site : Site) (now : ℕ) (who : Who) where
   reads_are (ask.Ban room user reason) is h0 h1 h2 h3 h4 h5 h6 h7 h8 h9 h10 h11 h12 h13 h14 = absurd cc
   reads_are (ask.Unban room user reason) is h0 h1 h2 h3 h4 h5 h6 h7 h8 h9 h10 h11 h12 h13 h14 = absurd cc
   reads_are (ask.Messages room backward from to limit filter) is h0 h1 h2 h3 h4 h5 h6 h7 h8 h9 h10 h11 h12 h13 h14 = absurd (h6 room backward from to limit filter refl)
-  reads_are (ask.Sync since filter full timeout) is h0 h1 h2 h3 h4 h5 h6 h7 h8 h9 h10 h11 h12 h13 h14 = absurd (h7 since filter full timeout refl)
+  reads_are (ask.Sync since filter full after timeout) is h0 h1 h2 h3 h4 h5 h6 h7 h8 h9 h10 h11 h12 h13 h14 = absurd (h7 since filter full after timeout refl)
   reads_are (ask.PutFilter filter) is h0 h1 h2 h3 h4 h5 h6 h7 h8 h9 h10 h11 h12 h13 h14 = absurd cc
   reads_are (ask.GetFilter id) is h0 h1 h2 h3 h4 h5 h6 h7 h8 h9 h10 h11 h12 h13 h14 = absurd (h8 id refl)
   reads_are (ask.PutAccount room kind content) is h0 h1 h2 h3 h4 h5 h6 h7 h8 h9 h10 h11 h12 h13 h14 = absurd cc
@@ -99,7 +99,7 @@ module _ (site : Site) (now : ℕ) (who : Who) where
   sends_are (ask.Ban room user reason) is h0 h1 h2 h3 h4 h5 h6 h7 h8 h9 = absurd (h8 room user reason refl)
   sends_are (ask.Unban room user reason) is h0 h1 h2 h3 h4 h5 h6 h7 h8 h9 = absurd (h9 room user reason refl)
   sends_are (ask.Messages room backward from to limit filter) is h0 h1 h2 h3 h4 h5 h6 h7 h8 h9 = absurd cc
-  sends_are (ask.Sync since filter full timeout) is h0 h1 h2 h3 h4 h5 h6 h7 h8 h9 = absurd cc
+  sends_are (ask.Sync since filter full after timeout) is h0 h1 h2 h3 h4 h5 h6 h7 h8 h9 = absurd cc
   sends_are (ask.PutFilter filter) is h0 h1 h2 h3 h4 h5 h6 h7 h8 h9 = absurd cc
   sends_are (ask.GetFilter id) is h0 h1 h2 h3 h4 h5 h6 h7 h8 h9 = absurd cc
   sends_are (ask.PutAccount room kind content) is h0 h1 h2 h3 h4 h5 h6 h7 h8 h9 = absurd cc
@@ -139,7 +139,7 @@ module _ (site : Site) (now : ℕ) (who : Who) where
   files_are (ask.Ban room user reason) is = absurd cc
   files_are (ask.Unban room user reason) is = absurd cc
   files_are (ask.Messages room backward from to limit filter) is = absurd cc
-  files_are (ask.Sync since filter full timeout) is = absurd cc
+  files_are (ask.Sync since filter full after timeout) is = absurd cc
   files_are (ask.PutFilter filter) is = (filter, refl)
   files_are (ask.GetFilter id) is = absurd cc
   files_are (ask.PutAccount room kind content) is = absurd cc
@@ -187,7 +187,7 @@ module _ (site : Site) (now : ℕ) (who : Who) where
   puts_are (ask.Ban room user reason) is h0 h1 h2 h3 h4 h5 h6 h7 = absurd cc
   puts_are (ask.Unban room user reason) is h0 h1 h2 h3 h4 h5 h6 h7 = absurd cc
   puts_are (ask.Messages room backward from to limit filter) is h0 h1 h2 h3 h4 h5 h6 h7 = absurd cc
-  puts_are (ask.Sync since filter full timeout) is h0 h1 h2 h3 h4 h5 h6 h7 = absurd cc
+  puts_are (ask.Sync since filter full after timeout) is h0 h1 h2 h3 h4 h5 h6 h7 = absurd cc
   puts_are (ask.PutFilter filter) is h0 h1 h2 h3 h4 h5 h6 h7 = absurd cc
   puts_are (ask.GetFilter id) is h0 h1 h2 h3 h4 h5 h6 h7 = absurd cc
   puts_are (ask.PutAccount room kind content) is h0 h1 h2 h3 h4 h5 h6 h7 = absurd (h0 room kind content refl)

@@ -1,5 +1,5 @@
 -- What a request that reads is told, on what the streams cover.
-use Rattle.std.specs.Prelude.{ℕ, List, Bool, false, Option, Some, None, length, if◌then◌else◌}
+use Rattle.std.specs.Prelude.{ℕ, List, Bool, Option, Some, None, length, if◌then◌else◌}
 use Rattle.mx_ask.specs.declared.ask.FilterAsk.{FilterAsk}
 use Rattle.mx_ask.specs.declared.refusal.Refusal.TheVariants as refusal
 use Rattle.mx_ask.specs.declared.said.Said.{Said}
@@ -49,16 +49,17 @@ page_said l user room backward from to limit filter = of_room (λ r. page_told l
 
 -- ---- a sync
 
-abbrev pub sync_ask : Option SyncToken → Bool → Filter → SyncAsk
-sync_ask since full filter = record { filter = filter.selection; since = since; extent = record { after = false; limit = filter.limit; full = full } }
+-- with the whole state, where the first is true, and with the state at the end of each timeline, where the second is
+abbrev pub sync_ask : Option SyncToken → Bool → Bool → Filter → SyncAsk
+sync_ask since full after filter = record { filter = filter.selection; since = since; extent = record { after = after; limit = filter.limit; full = full } }
 
 abbrev pub sync_told : Lists → List ℕ → SyncAsk → Said
 sync_told l user ask = unless_ahead (ahead_of ask.since (fronts_of l)) (said.Synced (reply_of l user ask))
 
-abbrev pub sync_by : Lists → List ℕ → Option SyncToken → Bool → Option Filter → Said
-sync_by l user since full None = said.Refused refusal.NotFound
-sync_by l user since full (Some filter) = sync_told l user (sync_ask since full filter)
+abbrev pub sync_by : Lists → List ℕ → Option SyncToken → Bool → Bool → Option Filter → Said
+sync_by l user since full after None = said.Refused refusal.NotFound
+sync_by l user since full after (Some filter) = sync_told l user (sync_ask since full after filter)
 
 -- `GET /sync`, by the filter that is asked
-unfoldable pub sync_said : Lists → List ℕ → Option SyncToken → FilterAsk → Bool → Said
-sync_said l user since filter full = sync_by l user since full (filter_for l user filter)
+unfoldable pub sync_said : Lists → List ℕ → Option SyncToken → FilterAsk → Bool → Bool → Said
+sync_said l user since filter full after = sync_by l user since full after (filter_for l user filter)

@@ -39,8 +39,9 @@ pub fn read(
             since,
             filter,
             full_state,
+            after,
             timeout: _,
-        } => sync_said(alloc, known, &who.user, *since, filter, *full_state),
+        } => sync_said(alloc, known, &who.user, *since, filter, *full_state, *after),
         _ => read_other(alloc, site, known.as_snapshot(), who, ask),
     }
 }
@@ -55,7 +56,7 @@ fn read_other(
 ) -> Result<Said, Memory>
     requires valid { AreValid (lists_of snapshot.now) }
     requires kind { (now : ℕ) → kind_in (asked (site_of site.now) now who.now ask.now) ≡ kinds.Reads }
-    requires other { (since : Option SyncToken) (filter : FilterAsk) (full_state : Bool) (timeout : ℕ) → ask.now ≡ asks.Sync since filter full_state timeout → ⊥ }
+    requires other { (since : Option SyncToken) (filter : FilterAsk) (full_state after : Bool) (timeout : ℕ) → ask.now ≡ asks.Sync since filter full_state after timeout → ⊥ }
     ensures { (now : ℕ) → IfOk result (λ said. Tells (asked (site_of site.now) now who.now ask.now) (lists_of snapshot.now) said) }
 {
     let user = &who.user;

@@ -22,15 +22,18 @@ pub fn sync_said(
     since: Option<SyncToken>,
     filter: &FilterAsk,
     full_state: bool,
+    after: bool,
 ) -> Result<Said, Memory>
     requires valid { AreValid (lists_of known.old) }
     ensures same { known.new ≡ known.old }
-    ensures told { IfOk result (λ said. said ≡ told.sync_said (lists_of known.old) user.now since filter.now full_state) }
+    ensures told { IfOk result (λ said. said ≡ told.sync_said (lists_of known.old) user.now since filter.now full_state after) }
 {
     match filter {
-        FilterAsk::Absent => sync_named(alloc, known, user, since, None, full_state),
-        FilterAsk::Stored(id) => sync_named(alloc, known, user, since, Some(id), full_state),
-        FilterAsk::Inline(filter) => sync_told(alloc, known, user, since, filter, full_state),
+        FilterAsk::Absent => sync_named(alloc, known, user, since, None, full_state, after),
+        FilterAsk::Stored(id) => sync_named(alloc, known, user, since, Some(id), full_state, after),
+        FilterAsk::Inline(filter) => sync_told(
+            alloc, known, user, since, filter, full_state, after,
+        ),
     }
 }
 
@@ -42,13 +45,14 @@ fn sync_named(
     since: Option<SyncToken>,
     id: Option<&Text>,
     full_state: bool,
+    after: bool,
 ) -> Result<Said, Memory>
     requires valid { AreValid (lists_of known.old) }
     ensures same { known.new ≡ known.old }
-    ensures told { IfOk result (λ said. said ≡ told.sync_by (lists_of known.old) user.now since full_state (filter_named (lists_of known.old) user.now (option_copied id.entry))) }
+    ensures told { IfOk result (λ said. said ≡ told.sync_by (lists_of known.old) user.now since full_state after (filter_named (lists_of known.old) user.now (option_copied id.entry))) }
 {
     match filter_named(alloc, known.as_snapshot(), user, id)? {
-        Some(filter) => sync_told(alloc, known, user, since, &filter, full_state),
+        Some(filter) => sync_told(alloc, known, user, since, &filter, full_state, after),
         None => Ok(Said::Refused(Refusal::NotFound)),
     }
 }
@@ -61,17 +65,18 @@ fn sync_told(
     since: Option<SyncToken>,
     filter: &Filter,
     full_state: bool,
+    after: bool,
 ) -> Result<Said, Memory>
     requires valid { AreValid (lists_of known.old) }
     ensures same { known.new ≡ known.old }
-    ensures told { IfOk result (λ said. said ≡ told.sync_told (lists_of known.old) user.now (told.sync_ask since full_state filter.now)) }
+    ensures told { IfOk result (λ said. said ≡ told.sync_told (lists_of known.old) user.now (told.sync_ask since full_state after filter.now)) }
 {
     let ask = SyncAsk {
         user,
         filter,
         since,
         full_state,
-        after: false,
+        after,
     };
     match known.reply(alloc, &ask) {
         Ok(reply) => Ok(Said::Synced(reply)),

@@ -17,6 +17,7 @@ error_json code error = json.Object (member (codes "errcode") (json.Text code) �
 abbrev pub parameter_name : Parameter → List ℕ
 parameter_name parameter.Since = codes "since"
 parameter_name parameter.FullState = codes "full_state"
+parameter_name parameter.UseStateAfter = codes "use_state_after"
 parameter_name parameter.Timeout = codes "timeout"
 parameter_name parameter.Filter = codes "filter"
 parameter_name parameter.Dir = codes "dir"

@@ -13,6 +13,7 @@ use std::alloc::Global;
 pub enum Parameter {
     Since,
     FullState,
+    UseStateAfter,
     Timeout,
     Filter,
     Dir,
@@ -89,6 +90,7 @@ impl Parameter {
         match self {
             Parameter::Since => "since",
             Parameter::FullState => "full_state",
+            Parameter::UseStateAfter => "use_state_after",
             Parameter::Timeout => "timeout",
             Parameter::Filter => "filter",
             Parameter::Dir => "dir",

@@ -32,6 +32,7 @@ first_bad query =
     first_wrong
     ((name.Since, is_wrong is_token (parameter (codes "since") query))
     ∷ (name.FullState, is_wrong is_truth (parameter (codes "full_state") query))
+    ∷ (name.UseStateAfter, is_wrong is_truth (parameter (codes "use_state_after") query))
     ∷ (name.Timeout, is_wrong is_timeout (parameter (codes "timeout") query))
     ∷ (name.Filter, is_wrong is_filter (parameter (codes "filter") query))
     ∷ [])
@@ -52,3 +53,7 @@ says_true (Some value) = bytes_eq value (codes "true")
 -- the whole state is asked for
 abbrev pub is_full : List (List ℕ × List ℕ) → Bool
 is_full query = says_true (parameter (codes "full_state") query)
+
+-- the state at the end of each timeline is asked for
+abbrev pub is_after : List (List ℕ × List ℕ) → Bool
+is_after query = says_true (parameter (codes "use_state_after") query)

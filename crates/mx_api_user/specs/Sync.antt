@@ -11,11 +11,11 @@ use Rattle.mx_api.specs.declared.authenticated.Authenticated.{Authenticated}
 use Rattle.mx_api.specs.declared.refused.Parameter.{Parameter}
 use Rattle.mx_api.specs.declared.refused.Refused.TheVariants as refused
 use Rattle.mx_api_user.specs.Filters.{filter_asked}
-use Rattle.mx_api_user.specs.Queries.{first_bad, is_full, since_in, timeout_in}
+use Rattle.mx_api_user.specs.Queries.{first_bad, is_after, is_full, since_in, timeout_in}
 
 -- by a filter
 abbrev pub sync_with : Who → List (List ℕ × List ℕ) → FilterAsk → Asked
-sync_with who query filter = request who (ask.Sync (since_in query) filter (is_full query) (timeout_in query))
+sync_with who query filter = request who (ask.Sync (since_in query) filter (is_full query) (is_after query) (timeout_in query))
 
 -- by its parameters, unless one is bad
 abbrev pub sync_by : Who → List (List ℕ × List ℕ) → Option Parameter → Asked

@@ -4,7 +4,7 @@ ghost use Rattle.mx_api.specs.Calls.{IsAsked};
 ghost use Rattle.mx_api_user.specs.Sync.{sync_asked};
 
 use crate::filters::filter_asked;
-use crate::sync_query::{first_bad, is_full, since_in, timeout_in};
+use crate::sync_query::{first_bad, is_after, is_full, since_in, timeout_in};
 use mx_api::{Asked, Authenticated, Refused};
 use mx_ask::{Ask, Request};
 use mx_http::parameter;
@@ -30,6 +30,7 @@ pub(crate) fn sync(alloc: Global, call: Authenticated) -> Result<Asked, Memory>
                 since: since_in(query),
                 filter,
                 full_state: is_full(query),
+                after: is_after(query),
                 timeout: timeout_in(query),
             };
             Ok(Asked::Request(Request { who, ask }))

@@ -1,7 +1,7 @@
 //! The parameters of a sync.
 ghost use Rattle.std.specs.Prelude.{◌≡◌, ◌≤◌, option_map};
 ghost use Rattle.mx_api.specs.Queries.{is_number, is_wrong};
-ghost use Rattle.mx_api_user.specs.Queries.{first_bad, is_filter, is_full, is_token, is_timeout, is_truth, since_in, timeout_in};
+ghost use Rattle.mx_api_user.specs.Queries.{first_bad, is_after, is_filter, is_full, is_token, is_timeout, is_truth, says_true, since_in, timeout_in};
 
 use mx_api::{Parameter, begins_object, first_wrong, number_within, sync_token_of};
 use mx_http::parameter;
@@ -23,6 +23,10 @@ pub(crate) fn first_bad(query: &[(Text, Text)]) -> Option<Parameter>
             is_no_truth(parameter(query, "full_state")),
         ),
         (
+            Parameter::UseStateAfter,
+            is_no_truth(parameter(query, "use_state_after")),
+        ),
+        (
             Parameter::Timeout,
             is_no_timeout(parameter(query, "timeout")),
         ),
@@ -42,7 +46,20 @@ pub(crate) fn since_in(query: &[(Text, Text)]) -> Option<SyncToken>
 pub(crate) fn is_full(query: &[(Text, Text)]) -> bool
     ensures { result ≡ is_full query.now }
 {
-    match parameter(query, "full_state") {
+    says_true(parameter(query, "full_state"))
+}
+
+/// Whether the state at the end of each timeline is asked for, and not that at its beginning.
+pub(crate) fn is_after(query: &[(Text, Text)]) -> bool
+    ensures { result ≡ is_after query.now }
+{
+    says_true(parameter(query, "use_state_after"))
+}
+
+fn says_true(value: Option<&Text>) -> bool
+    ensures { result ≡ says_true (option_map (λ v. v.now) value.entry) }
+{
+    match value {
         Some(text) => text.as_str() == "true",
         None => false,
     }

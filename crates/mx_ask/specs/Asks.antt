@@ -11,5 +11,5 @@ IsAsk (ask.CreateRoom body) = is_create_body body ≡ true
 IsAsk (ask.Send room kind txn content) = slice_get txn.path 0 ≡ Some room
 IsAsk (ask.Redact room event txn reason) = slice_get txn.path 0 ≡ Some room
 IsAsk (ask.Messages room backward from to limit filter) = limit ≤ 1000
-IsAsk (ask.Sync since filter full timeout) = timeout ≤ 300000
+IsAsk (ask.Sync since filter full after timeout) = timeout ≤ 300000
 IsAsk other = Unit {0}

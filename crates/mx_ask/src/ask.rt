@@ -132,6 +132,8 @@ pub enum Ask {
         since: Option<SyncToken>,
         filter: FilterAsk,
         full_state: bool,
+        /// The state of each room is that at the end of its timeline, not that at its beginning.
+        after: bool,
         /// How long it may wait for something to tell, in milliseconds, at most 300,000.
         timeout: u64,
     },

@@ -20,7 +20,7 @@ pub enum Refusal {
     Version,
     /// A preset that isn't one of the standard's.
     Preset,
-    /// A new room would have more than 256 events.
+    /// A new room would have more than 512 events.
     TooMany,
     /// The rule that refuses an event of a new room.
     State(u8),

@@ -169,7 +169,7 @@ module _ (site : Site) (h : Histories) (placed : stand_from position_of 1 (lists
   act_alike (ask.Ban room user reason) = tt
   act_alike (ask.Unban room user reason) = tt
   act_alike (ask.Messages room backward from to limit filter) = page_alike (lists_of h) who.user (room_of site room) backward from to limit filter
-  act_alike (ask.Sync since filter full timeout) = sync_alike (lists_of h) who.user placed since full filter
+  act_alike (ask.Sync since filter full after timeout) = sync_alike (lists_of h) who.user placed since full after filter
   act_alike (ask.PutFilter filter) = tt
   act_alike (ask.GetFilter id) = tt
   act_alike (ask.PutAccount room kind content) = tt

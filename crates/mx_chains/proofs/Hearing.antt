@@ -83,16 +83,16 @@ module _ (l : Lists) (user : List ℕ) (placed : stand_from position_of 1 l.even
   sync_taken a None b is = rw is (refl, taken (reply_of l user a) (fold.reply_of (server_for user) l user a) (replies_are (λ device. user) l user a placed))
   sync_taken a (Some p) b is = rw is tt
 
-  by_filter : (since : Option SyncToken) (full : Bool) (o : Option Filter)
-      → Alike (heard (sync_asked since full o) (sync_by l user since full o)) (fold.answer_to (server_for user) l user (sync_asked since full o))
-  by_filter since full None = tt
-  by_filter since full (Some f) =
-      sync_taken (sync_ask since full f) (sync.ahead_of since (fronts_of l)) (is_behind since (fronts_of l)) (sync_behind since (fronts_of l))
+  by_filter : (since : Option SyncToken) (full after : Bool) (o : Option Filter)
+      → Alike (heard (sync_asked since full after o) (sync_by l user since full after o)) (fold.answer_to (server_for user) l user (sync_asked since full after o))
+  by_filter since full after None = tt
+  by_filter since full after (Some f) =
+      sync_taken (sync_ask since full after f) (sync.ahead_of since (fronts_of l)) (is_behind since (fronts_of l)) (sync_behind since (fronts_of l))
 
-  pub sync_alike : (since : Option SyncToken) (full : Bool) (filter : FilterAsk)
-      → Alike (heard (sync_asked since full (filter_for l user filter)) (sync_said l user since filter full)) (fold.answer_to (server_for user) l user (sync_asked since full (filter_for l user filter)))
+  pub sync_alike : (since : Option SyncToken) (full after : Bool) (filter : FilterAsk)
+      → Alike (heard (sync_asked since full after (filter_for l user filter)) (sync_said l user since filter full after)) (fold.answer_to (server_for user) l user (sync_asked since full after (filter_for l user filter)))
   unfolding sync_said
-  sync_alike since full filter = by_filter since full (filter_for l user filter)
+  sync_alike since full after filter = by_filter since full after (filter_for l user filter)
 
 -- ---- pages
 

@@ -149,7 +149,7 @@ module _ (site : Site) (h : Histories) (m : marks.Mark) (now : ℕ) (who : Who) 
   act_seen (ask.Ban room user reason) = tt
   act_seen (ask.Unban room user reason) = tt
   act_seen (ask.Messages room backward from to limit filter) = said_seen (lists_of h) who.user (room_of site room) backward from to limit filter
-  act_seen (ask.Sync since filter full timeout) = tt
+  act_seen (ask.Sync since filter full after timeout) = tt
   act_seen (ask.PutFilter filter) = tt
   act_seen (ask.GetFilter id) = tt
   act_seen (ask.PutAccount room kind content) = tt

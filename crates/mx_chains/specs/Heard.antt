@@ -34,9 +34,9 @@ use Rattle.mx_engine.specs.declared.answered.Answered.{Answered}
 -- ---- what is asked
 
 -- a sync by this filter, if there is one
-abbrev pub sync_asked : Option SyncToken → Bool → Option Filter → fold.Ask
-sync_asked since full None = Else
-sync_asked since full (Some filter) = Syncs (sync_ask since full filter)
+abbrev pub sync_asked : Option SyncToken → Bool → Bool → Option Filter → fold.Ask
+sync_asked since full after None = Else
+sync_asked since full after (Some filter) = Syncs (sync_ask since full after filter)
 
 abbrev pub page_back : RoomId → PageToken → Option SyncToken → ℕ → Filter → fold.Ask
 page_back room from to limit filter = Pages (record { room = room; from_at = from.at; from_cut = from.e; to = to; limit = limit; filter = filter.selection })
@@ -60,7 +60,7 @@ page_asked (Some room) backward from to limit filter = cond backward (page_from_
 
 -- what a request asks, on what the streams cover
 abbrev pub asked_of : Site → Lists → Who → Ask → fold.Ask
-asked_of site l who (ask.Sync since filter full timeout) = sync_asked since full (filter_for l who.user filter)
+asked_of site l who (ask.Sync since filter full after timeout) = sync_asked since full after (filter_for l who.user filter)
 asked_of site l who (ask.Messages room backward from to limit filter) = page_asked (room_of site room) backward from to limit filter
 asked_of site l who other = Else
 

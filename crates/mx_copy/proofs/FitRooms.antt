@@ -2,6 +2,7 @@
 use Rattle.std.proofs.Common.{◌≡◌, ℕ, suc, Bool, true, false, List, [], ◌∷◌, ◌++◌, map, filter, fold, nat_cmp, Option, Some, None, unwrap_or, codes, if◌then◌else◌, refl, arith}
 use Rattle.std.specs.List.{AllByRecursion}
 use Rattle.std.specs.Option.{option_to_list}
+use Rattle.json.proofs.Printed.Utf8.{are_ascii}
 use Rattle.mx_ids.specs.Ids.{event_id_text}
 use Rattle.mx_ids.specs.Page.{page_text}
 use Rattle.mx_window.proofs.Each.{AllByRecursion-append}
@@ -22,7 +23,7 @@ use Rattle.mx_sync.specs.declared.sync_reply.LeftRoom.{LeftRoom}
 use Rattle.mx_unread.specs.declared.unread_counts.Counts.{Counts}
 use Rattle.mx_sync_json.specs.Objects.{account_form, counts_form, data_form, events_form, pair_form, summary_form}
 use Rattle.mx_sync_json.specs.Receipts.{content_form, ephemeral_form, event_at, is_kind, itself, kind_member, kind_text, kinds_form, mark_form, of_event, users_form}
-use Rattle.mx_sync_json.specs.Rooms.{account_of, counts_of, invited_form, joined_form, left_form, receipts_of, shown_form, state_form, stripped_form, summary_of, timeline_form}
+use Rattle.mx_sync_json.specs.Rooms.{account_of, counts_of, invited_form, joined_form, left_form, receipts_of, shown_form, state_form, state_name, stripped_form, summary_of, timeline_form}
 use Rattle.mx_copy.specs.Writable.{Fits, IsText, JoinedFits, PartFits, ShownFits, TypedFits}
 use Rattle.mx_copy.proofs.FitEvents.{shown_fits}
 use Rattle.mx_copy.proofs.FitTexts.{event_text, page_token_text}
@@ -138,6 +139,19 @@ stripped_fits s fits =
 pub invited_fits : (r : InvitedRoom) → AllByRecursion ShownFits r.state → Fits 124 (invited_form r)
 invited_fits r all = object_fits 123 _ refl (member_fits 123 (codes "invite_state") _ refl (events_fit 121 (map stripped_form r.state) (fit_each ShownFits 121 stripped_form stripped_fits r.state all)), tt)
 
+-- the state's key is ASCII, and stands in its place among the others
+name_is_ascii : (after : Bool) → are_ascii (state_name after) ≡ true
+name_is_ascii true = refl
+name_is_ascii false = refl
+
+left_in_order : (after : Bool) → are_ordered (state_name after ∷ codes "timeline" ∷ []) ≡ true
+left_in_order true = refl
+left_in_order false = refl
+
+joined_in_order : (after : Bool) → are_ordered (codes "account_data" ∷ codes "ephemeral" ∷ state_name after ∷ codes "summary" ∷ codes "timeline" ∷ codes "unread_notifications" ∷ []) ≡ true
+joined_in_order true = refl
+joined_in_order false = refl
+
 module _ (server : List ℕ) (device front : ℕ) (is : IsText server) where
   all_shown : (events : List Shown) → AllByRecursion ShownFits events → AllByRecursion (Fits 121) (shown_form server device front events)
   all_shown events all = fit_each ShownFits 121 (client_form server false device) (shown_fits server false device is) events all
@@ -157,12 +171,12 @@ module _ (server : List ℕ) (device front : ℕ) (is : IsText server) where
 
   pub joined_fits : (r : JoinedRoom) → JoinedFits r → Fits 124 (joined_form server device front r)
   joined_fits r fits =
-      object_fits 123 _ refl (
+      object_fits 123 _ (joined_in_order r.after) (
         member_fits 123 (codes "account_data") _ refl (account_fits (account_of r.rest) fits.account),
         (
           member_fits 123 (codes "ephemeral") _ refl (ephemeral_fits server is (receipts_of r.rest) fits.users),
           (
-            member_fits 123 (codes "state") _ refl (state_fits r.part fits.part),
+            member_fits 123 (state_name r.after) _ (name_is_ascii r.after) (state_fits r.part fits.part),
             (
               member_fits 123 (codes "summary") _ refl (summary_fits (summary_of r.rest) fits.heroes),
               (
@@ -176,4 +190,5 @@ module _ (server : List ℕ) (device front : ℕ) (is : IsText server) where
 
   pub left_fits : (r : LeftRoom) → PartFits r.part → Fits 124 (left_form server device front r)
   left_fits r fits =
-      object_fits 123 _ refl (member_fits 123 (codes "state") _ refl (state_fits r.part fits), (member_fits 123 (codes "timeline") _ refl (timeline_fits r.part fits), tt))
+      object_fits 123 _ (left_in_order r.after)
+      (member_fits 123 (state_name r.after) _ (name_is_ascii r.after) (state_fits r.part fits), (member_fits 123 (codes "timeline") _ refl (timeline_fits r.part fits), tt))

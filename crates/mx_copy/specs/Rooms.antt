@@ -1,5 +1,5 @@
 -- A room in the reply to a sync as a client reads it (Client-Server API, Syncing).
-use Rattle.std.specs.Prelude.{ℕ, Bool, List, Option, Some, codes, option_map}
+use Rattle.std.specs.Prelude.{ℕ, Bool, true, false, List, Option, Some, None, codes, option_map}
 use Rattle.mx_json.specs.Fields.{bool_of, text_of}
 use Rattle.mx_json.specs.declared.members.Member.{Member}
 use Rattle.mx_json.specs.declared.value.Json.{Json}
@@ -7,8 +7,10 @@ use Rattle.mx_copy.specs.Events.{ClientEvent, StrippedEvent, event_of, stripped_
 use Rattle.mx_copy.specs.Looks.{◌>>=◌, listed, natural_of, object_of, read_at, read_if}
 use Rattle.mx_copy.specs.Receipts.{Marks, joined_marks, marks_by}
 
--- the events of a joined or left room, whether there are more before the timeline, and where a page of those begins
+-- the events of a joined or left room, whether the state is that at the timeline's end, whether there are more events before
+-- the timeline, and where a page of those begins
 pub record ClientPart : Type 0 where
+  pub after : Bool
   pub state : List ClientEvent
   pub timeline : List ClientEvent
   pub limited : Bool
@@ -36,14 +38,24 @@ pub record ClientRoom : Type 0 where
 abbrev pub events_of : {A : Type 0} → (Json → Option A) → Json → Option (List A)
 events_of see j = object_of j >>= read_at (listed see) (codes "events")
 
+abbrev pub state_or : Option (List ClientEvent) → List (Member Json) → Option (Bool × List ClientEvent)
+state_or (Some events) ms = Some (true, events)
+state_or None ms = option_map (λ events. (false, events)) (read_at (events_of event_of) (codes "state") ms)
+
+-- the state at the timeline's end where that is there, else the one before the timeline
+abbrev pub state_in : List (Member Json) → Option (Bool × List ClientEvent)
+state_in ms = do
+  after ← read_if (events_of event_of) (codes "state_after") ms
+  state_or after ms
+
 abbrev pub part_in : List (Member Json) → Option ClientPart
 part_in ms = do
-  state ← read_at (events_of event_of) (codes "state") ms
+  state ← state_in ms
   timeline ← read_at object_of (codes "timeline") ms
   events ← read_at (listed event_of) (codes "events") timeline
   limited ← read_at bool_of (codes "limited") timeline
   prev_batch ← read_at text_of (codes "prev_batch") timeline
-  Some (record { state = state; timeline = events; limited = limited; prev_batch = prev_batch })
+  Some (record { after = state.0; state = state.1; timeline = events; limited = limited; prev_batch = prev_batch })
 
 abbrev pub part_of : Json → Option ClientPart
 part_of j = object_of j >>= part_in

@@ -1,5 +1,5 @@
 -- What a reply to a sync and a page have for a client, by their own parts.
-use Rattle.std.specs.Prelude.{ℕ, true, false, List, map, Option, Some, None, option_map}
+use Rattle.std.specs.Prelude.{ℕ, Bool, true, false, List, map, Option, Some, None, option_map}
 use Rattle.std.specs.Str.{bytes_eq}
 use Rattle.mx_ids.specs.Ids.{room_id_text}
 use Rattle.mx_ids.specs.Page.{page_text}
@@ -53,8 +53,9 @@ with_rest server part (rest.Changed delta) = record {
 
 -- `server` is the name of the server; `front` is the reply's front of events
 module _ (server : List ℕ) (device front : ℕ) where
-  abbrev pub part_sent : RoomPart → ClientPart
-  part_sent p = record {
+  abbrev pub part_sent : Bool → RoomPart → ClientPart
+  part_sent after p = record {
+    after = after;
     state = map (client_event server false device) p.state;
     timeline = map (client_event server false device) p.timeline;
     limited = p.limited;
@@ -62,10 +63,10 @@ module _ (server : List ℕ) (device front : ℕ) where
   }
 
   abbrev pub joined_sent : JoinedRoom → ClientRoom
-  joined_sent r = with_rest server (part_sent r.part) r.rest
+  joined_sent r = with_rest server (part_sent r.after r.part) r.rest
 
   abbrev pub left_sent : LeftRoom → ClientPart
-  left_sent r = part_sent r.part
+  left_sent r = part_sent r.after r.part
 
 abbrev pub invited_sent : InvitedRoom → List StrippedEvent
 invited_sent r = map stripped_event r.state

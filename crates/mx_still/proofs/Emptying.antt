@@ -411,9 +411,9 @@ module _ (l : Lists) (user : List ℕ) (t : SyncToken) (placed : ArePlaced l) (b
       later_stays h =
           let quiet : (has_news (part_after k user asking room since) || differs_of user f room (upto since k) k) ≡ false =
           unjoined (has_news (part_after k user asking room since) || differs_of user f room (upto since k) k)
-          (record { room = room; part = part_after k user asking room since; rest = rest.Changed (delta_of user f room (upto since k) k) }) h in
+          (record { room = room; after = x.after; part = part_after k user asking room since; rest = rest.Changed (delta_of user f room (upto since k) k) }) h in
           ap (λ b. cond b (answer.Joined
-          (record { room = room; part = part_after l user asking room since; rest = rest.Changed (delta_of user f room (upto since l) l) })) answer.Nothing)
+          (record { room = room; after = x.after; part = part_after l user asking room since; rest = rest.Changed (delta_of user f room (upto since l) l) })) answer.Nothing)
           (sym (λ i. news_same i || differs_same i) ∙ quiet)
 
       joined_stays : joined k user asking room (Some since) ≡ answer.Nothing → joined l user asking room (Some since) ≡ answer.Nothing
@@ -433,11 +433,11 @@ module _ (l : Lists) (user : List ℕ) (t : SyncToken) (placed : ArePlaced l) (b
           ap (λ b. cond b (answer.Invited (record { room = room; state = stripped_at l user asking room e })) answer.Nothing)
           (uninvited (nat_lt since.e e.id.at) (record { room = room; state = stripped_at k user asking room e }) h)
       own_stays e (Some Leave) h =
-          ap (λ b. cond b (answer.Left (record { room = room; part = left_part l user asking room })) answer.Nothing)
-          (unleft (nat_lt since.e e.id.at) (record { room = room; part = left_part k user asking room }) h)
+          ap (λ b. cond b (answer.Left (record { room = room; after = x.after; part = left_part l user asking room })) answer.Nothing)
+          (unleft (nat_lt since.e e.id.at) (record { room = room; after = x.after; part = left_part k user asking room }) h)
       own_stays e (Some Ban) h =
-          ap (λ b. cond b (answer.Left (record { room = room; part = left_part l user asking room })) answer.Nothing)
-          (unleft (nat_lt since.e e.id.at) (record { room = room; part = left_part k user asking room }) h)
+          ap (λ b. cond b (answer.Left (record { room = room; after = x.after; part = left_part l user asking room })) answer.Nothing)
+          (unleft (nat_lt since.e e.id.at) (record { room = room; after = x.after; part = left_part k user asking room }) h)
 
       last_stays : (o : Option Event) → said_by_last k user asking room o ≡ answer.Nothing → said_by_last l user asking room o ≡ answer.Nothing
       last_stays None h = refl

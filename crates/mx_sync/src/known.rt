@@ -18,25 +18,25 @@ use crate::sync_ask::SyncAsk;
 use crate::sync_reply::Reply;
 use mx_account::Entry;
 use mx_event::Event;
-use mx_ids::{Memory, Seq};
+use mx_ids::Memory;
 use mx_lanes::Parts;
 use mx_receipt::Receipt;
-use mx_rest::{Tally, tallies_last};
+use mx_rest::{Tallies, rules_last, tallies_last};
 use mx_snapshot::Snapshot;
 use std::alloc::Global;
 use std::marker::Model;
 
-/// A snapshot that goes on, with tallies that stand for it. Contracts see it as the snapshot.
+/// A snapshot that goes on, with tallies, and the push rules that were read last, that stand for it. Contracts see it as the snapshot.
 #[derive(Drop)]
 pub struct Known {
     snapshot: Snapshot,
-    tallies: Seq<Tally>,
+    tallies: Tallies,
 }
 
 impl Model for Known {
     ghost use Rattle.mx_snapshot.specs.contracts.snapshot.Snapshot.{the_row as snapshot_row};
     ghost use Rattle.mx_snapshot.specs.declared.snapshot.Snapshot.{Snapshot};
-    ghost use Rattle.mx_rest.specs.Unread.Kept.{StandAll};
+    ghost use Rattle.mx_rest.specs.Unread.Kept.{Stand};
 
     ghost Value = { Snapshot };
 
@@ -44,7 +44,7 @@ impl Model for Known {
 
     ghost view = { λ k. k.snapshot };
 
-    ghost invariant = { λ k. StandAll k.snapshot k.tallies };
+    ghost invariant = { λ k. Stand k.snapshot k.tallies };
 }
 
 impl Known {
@@ -56,7 +56,7 @@ impl Known {
     {
         Known {
             snapshot: Snapshot::new(alloc),
-            tallies: Seq::new(alloc),
+            tallies: Tallies::new(alloc),
         }
     }
 
@@ -81,9 +81,10 @@ impl Known {
         let _receipts = self.snapshot.receipts.front();
         let _accounts = self.snapshot.accounts.front();
         tallies_last();
+        rules_last();
         let grown = self.snapshot.events.advance(alloc, events);
         if grown.is_err() {
-            self.tallies = Seq::new(alloc);
+            self.tallies = Tallies::new(alloc);
         }
         grown
     }
@@ -106,9 +107,10 @@ impl Known {
         let _receipts = self.snapshot.receipts.front();
         let _accounts = self.snapshot.accounts.front();
         tallies_last();
+        rules_last();
         let grown = self.snapshot.receipts.advance(alloc, receipts);
         if grown.is_err() {
-            self.tallies = Seq::new(alloc);
+            self.tallies = Tallies::new(alloc);
         }
         grown
     }
@@ -127,9 +129,10 @@ impl Known {
         let _receipts = self.snapshot.receipts.front();
         let _accounts = self.snapshot.accounts.front();
         tallies_last();
+        rules_last();
         let grown = self.snapshot.accounts.advance(alloc, accounts);
         if grown.is_err() {
-            self.tallies = Seq::new(alloc);
+            self.tallies = Tallies::new(alloc);
         }
         grown
     }

@@ -1,3 +1,4 @@
 pub mod Grouped
 pub mod Keys
+pub mod Named
 pub mod Puts

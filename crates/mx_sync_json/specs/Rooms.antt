@@ -1,5 +1,5 @@
 -- Rooms in the reply to a sync (Client-Server API, Syncing), as a device sees them.
-use Rattle.std.specs.Prelude.{ℕ, false, List, [], ◌∷◌, map, codes, Option, Some, unwrap_or}
+use Rattle.std.specs.Prelude.{ℕ, Bool, true, false, List, [], ◌∷◌, map, codes, Option, Some, unwrap_or}
 use Rattle.mx_ids.specs.Ids.{room_id_text}
 use Rattle.mx_ids.specs.Page.{page_text}
 use Rattle.mx_json.specs.Keys.{with_member}
@@ -38,6 +38,11 @@ abbrev pub summary_of : RoomRest → Option Summary
 summary_of (rest.New view) = Some view.summary
 summary_of (rest.Changed delta) = delta.summary
 
+-- the key of the state: by whether it is that at the timeline's end
+abbrev pub state_name : Bool → List ℕ
+state_name true = codes "state_after"
+state_name false = codes "state"
+
 -- a reply's front is the position at which `prev_batch` is read
 module _ (server : List ℕ) (device front : ℕ) where
   abbrev pub shown_form : List Shown → List Json
@@ -58,21 +63,21 @@ module _ (server : List ℕ) (device front : ℕ) where
   data_and_state r =
       member (codes "account_data") (account_form (account_of r.rest))
       ∷ member (codes "ephemeral") (ephemeral_form server (receipts_of r.rest))
-      ∷ member (codes "state") (state_form r.part)
+      ∷ member (state_name r.after) (state_form r.part)
       ∷ []
 
   abbrev pub joined_form : JoinedRoom → Json
   joined_form r = json.Object (
       member (codes "account_data") (account_form (account_of r.rest))
       ∷ member (codes "ephemeral") (ephemeral_form server (receipts_of r.rest))
-      ∷ member (codes "state") (state_form r.part)
+      ∷ member (state_name r.after) (state_form r.part)
       ∷ member (codes "summary") (summary_form (summary_of r.rest))
       ∷ member (codes "timeline") (timeline_form r.part)
       ∷ member (codes "unread_notifications") (counts_form (counts_of r.rest))
       ∷ [])
 
   abbrev pub left_form : LeftRoom → Json
-  left_form r = json.Object (member (codes "state") (state_form r.part) ∷ member (codes "timeline") (timeline_form r.part) ∷ [])
+  left_form r = json.Object (member (state_name r.after) (state_form r.part) ∷ member (codes "timeline") (timeline_form r.part) ∷ [])
 
   abbrev pub with_joined : List (Member Json) → JoinedRoom → List (Member Json)
   with_joined ms r = with_member (room_id_text server r.room) (joined_form r) ms

@@ -110,7 +110,7 @@ fn put_data_and_state(
     let ephemeral = ephemeral_form(alloc, to.server, receipts_of(&room.rest))?;
     put(alloc, members, "ephemeral", ephemeral)?;
     let state = state_form(alloc, to, &room.part)?;
-    put(alloc, members, "state", state)?;
+    put(alloc, members, state_name(room.after), state)?;
     Ok(())
 }
 
@@ -131,6 +131,13 @@ fn put_timeline_and_counts(
     let unread = counts_form(alloc, counts_of(&room.rest))?;
     put(alloc, members, "unread_notifications", unread)?;
     Ok(())
+}
+
+/// The key of the state: by whether it is that at the timeline's end.
+fn state_name(after: bool) -> &'static str
+    ensures { result.now ≡ form.state_name after }
+{
+    if after { "state_after" } else { "state" }
 }
 
 fn receipts_of(rest: &RoomRest) -> &Seq<Receipt>
@@ -175,7 +182,7 @@ fn left_form(alloc: Global, to: &Reader<'_>, room: &LeftRoom) -> Result<Json, Me
     let state = state_form(alloc, to, &room.part)?;
     let timeline = timeline_form(alloc, to, &room.part)?;
     let mut members = Members::new(alloc);
-    put(alloc, &mut members, "state", state)?;
+    put(alloc, &mut members, state_name(room.after), state)?;
     put(alloc, &mut members, "timeline", timeline)?;
     Ok(Json::Object(members))
 }

@@ -28,6 +28,7 @@ fn is_sync_since(rt: &impl Abort, row: &Json, since: &Option<SyncToken>) -> bool
 pub fn is_user_ask(rt: &impl Abort, row: &Json, ask: &Ask) -> bool {
     match ask {
         Ask::WhoAmI => are(rt, row, ["whoami"].as_slice()),
+        Ask::Sync { after: true, .. } => are(rt, row, ["sync", "after"].as_slice()),
         Ask::Sync { since, timeout, .. } => is_sync(rt, row, since, *timeout),
         Ask::PutAccount { kind, content, .. } => are(
             rt,

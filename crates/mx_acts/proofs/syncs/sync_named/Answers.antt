@@ -9,10 +9,10 @@ use Rattle.mx_acts.proofs.syncs.sync_named.Goals as goal
 
 pub returns-in-Some-clause-told : goal.returns-in-Some-clause-told
 returns-in-Some-clause-told c =
-    synced _ _ c.args.since c.args.full_state _ c.in-Some.filter c.in_ok-filter.field-0 c.sync_told.result
+    synced _ _ c.args.since c.args.full_state c.args.after _ c.in-Some.filter c.in_ok-filter.field-0 c.sync_told.result
     (c.in_ok-filter.ensures ∙ ap (λ (s : Snapshot). filter_named (lists_of s) c.args.user.now (option_copied c.args.id)) c.as_snapshot.ensures) c.in-Some.is c.sync_told.ensures.told
 
 pub returns-in-None-clause-told : goal.returns-in-None-clause-told
 returns-in-None-clause-told c =
-    ap (told.sync_by (lists_of c.args.known.now) c.args.user.now c.args.since c.args.full_state)
+    ap (told.sync_by (lists_of c.args.known.now) c.args.user.now c.args.since c.args.full_state c.args.after)
     (sym c.in-None.is ∙ c.in_ok-filter.ensures ∙ ap (λ (s : Snapshot). filter_named (lists_of s) c.args.user.now (option_copied c.args.id)) c.as_snapshot.ensures)

@@ -1,10 +1,20 @@
-use Rattle.std.proofs.Common.{[], ◌∷◌, ◌++◌, codes, ap, ◌∙◌}
+use Rattle.std.proofs.Common.{[], ◌∷◌, ◌++◌, List, codes, ap, ◌∙◌}
+use Rattle.mx_json.specs.Keys.{are_ordered, keys_of}
+use Rattle.mx_json.specs.declared.members.Member.{Member}
+use Rattle.mx_json.specs.declared.value.Json.{Json}
 use Rattle.mx_json.specs.declared.value.Json.TheVariants as json
 use Rattle.mx_event.specs.Forms.{member}
 use Rattle.mx_sync_json.specs.Objects.{counts_form, summary_form}
 use Rattle.mx_sync_json.specs.Rooms.{data_and_state}
+use Rattle.mx_sync_json.proofs.Named.{summary_next}
 use Rattle.mx_sync_json.proofs.Puts.{three_more}
 use Rattle.mx_sync_json.proofs.rooms.put_timeline_and_counts.Goals as goal
+
+pub put-requires : goal.put-requires
+put-requires c =
+    let to = c.args.to.now in
+    ap (λ (ms : List (Member Json)). are_ordered (keys_of ms ++ codes "summary" ∷ [])) c.requires
+    ∙ summary_next to.server.now to.device to.front c.args.room.now
 
 pub returns : goal.returns
 returns c =

@@ -6,7 +6,14 @@ use Rattle.mx_sync.proofs.known.Known.advance_events.Goals as goal
 
 pub invariant_of-self-else-is_err : goal.invariant_of-self-else-is_err
 invariant_of-self-else-is_err c =
-    events_last c.tallies_last.ensures c.self.inside.snapshot c.args.events.items c.advance-grown.new.self c.advance-grown.result
+    events_last c.tallies_last.ensures c.rules_last.ensures c.self.inside.snapshot c.args.events.items c.advance-grown.new.self c.advance-grown.result
     (record { events = c.front-events.ensures.placed; receipts = c.front-receipts.ensures.placed; accounts = c.front-accounts.ensures.placed })
     c.requires.placed (subst (λ (s : Snapshot). Begins s.events c.args.events.items) (sym c.self.view_is) c.requires.begins)
     c.advance-grown.ensures.ok (sym c.is_err.ensures.value ∙ c.if-is_err.false) c.self.inside.tallies c.self.invariant
+
+-- after want of memory no tally is kept, and no rules
+pub invariant_of-self : goal.invariant_of-self
+invariant_of-self c = c.new.ensures _
+
+pub invariant_of-self-then-is_err-2 : goal.invariant_of-self-then-is_err-2
+invariant_of-self-then-is_err-2 c = c.new.ensures _

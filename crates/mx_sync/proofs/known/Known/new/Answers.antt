@@ -1,0 +1,4 @@
+use Rattle.mx_sync.proofs.known.Known.new.Goals as goal
+
+pub invariant_of-result : goal.invariant_of-result
+invariant_of-result c = c.new-2.ensures c.new.result
