@@ -80,6 +80,7 @@ fn look_up(alloc: Global, known: &Snapshot, look: Look, number: u64) -> Result<u
         Look::State => state_at(alloc, events, &room(1), position)?.len(),
         Look::States => state_at(alloc, events, &room(0), position)?.len(),
         Look::Account => accounts.of_user(alloc, USER, low, front)?.len(),
+        Look::Data => accounts.standing(alloc, USER, Some(&room(number)))?.len(),
         Look::Receipts => receipts.of_room(alloc, &room(number), low, front)?.len(),
     };
     Ok(count as u64)

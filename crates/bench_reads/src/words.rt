@@ -19,6 +19,8 @@ pub enum Look {
     States,
     /// A user's account data after a position.
     Account,
+    /// The account data of a user and a room that stand.
+    Data,
     /// A room's receipts after a position.
     Receipts,
 }
@@ -71,6 +73,7 @@ fn look_named(word: &str) -> Option<Look> {
         "state" => Some(Look::State),
         "states" => Some(Look::States),
         "account" => Some(Look::Account),
+        "data" => Some(Look::Data),
         "receipts" => Some(Look::Receipts),
         _ => None,
     }

@@ -21,7 +21,9 @@ mod summarizing;
 
 pub use laws::{picks_are, summary_stays};
 pub use mx_state::{is_standing, state_at};
-pub use mx_visible::{Membership, Sighted, last_join, membership_of, sight, visible};
+pub use mx_visible::{
+    Membership, Sighted, last_join, last_mark, last_visible, membership_of, sight, visible,
+};
 pub use picker::{Pick, Picker, senders};
 pub use room_summary::Summary;
 pub use standing_members::members;

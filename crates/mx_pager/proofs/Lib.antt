@@ -2,6 +2,5 @@ pub mod Firsts
 pub mod Named
 pub mod Same
 pub mod Turned
-pub mod Unseen
 pub mod Upper
 pub mod Whole

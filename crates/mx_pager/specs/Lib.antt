@@ -2,4 +2,3 @@ pub mod Asks
 pub mod Forms
 pub mod Laws
 pub mod Pages
-pub mod Opening

@@ -21,8 +21,9 @@ pub(crate) struct Chosen<'a> {
     pub(crate) more: bool,
 }
 
-/// The events of a page between two positions. Takes the time of the room's events from the end at which it begins on, by
-/// stretches that grow by four until the page is full, and of some searches.
+/// The events of a page between two positions. Takes the time of the events from the end at which it begins on until the page
+/// is full, and of some searches: a backward page's of those that the user sees, a forward page's of all, by stretches that
+/// grow by four.
 pub(crate) fn choose<'a>(
     alloc: Global,
     reading: &Reading<'a>,

@@ -17,7 +17,6 @@ mod fault;
 mod forms;
 mod laws;
 mod members;
-mod opening;
 mod paging;
 mod seeing;
 mod sent;

@@ -28,9 +28,10 @@ use std::alloc::Global;
 /// A page of a room's events, as a user sees them at the snapshot's front (Client-Server API, Getting events for a room).
 ///
 /// `TokenAhead` exactly where a component of a bound exceeds the front of its stream: the first of `from`, then of `to`.
-/// `Forbidden` exactly where none is, and the user sees no event of the room. Takes the time of the room's events from where
-/// the page begins on, by stretches that grow by four until it is full; with lazy members that of the room's member events
-/// besides; and that of some searches.
+/// `Forbidden` exactly where none is, and the user sees no event of the room. Takes the time of the events from where the page
+/// begins on until it is full, backward of those that the user sees, forward of all, by stretches that grow by four; with
+/// lazy members that of the room's member events besides; and that of some searches, a few of them for each of the user's
+/// member events and the room's history-visibility events.
 pub fn page(
     alloc: Global,
     snapshot: &Snapshot,
@@ -53,8 +54,7 @@ pub fn page(
         user,
         filter: ask.filter,
     };
-    let seen = sees_room(alloc, &reading)?;
-    if !seen {
+    if !sees_room(&reading) {
         return Err(PageFault::Forbidden);
     }
     let page = read_page(alloc, &reading, ask);

@@ -5,4 +5,5 @@ pub mod Early
 pub mod Placed
 pub mod Settled
 pub mod Shown
-pub mod Stretched
+pub mod Breaking
+pub mod Reached

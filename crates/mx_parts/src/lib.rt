@@ -12,9 +12,10 @@
 //! `specs/Sections.antt`.
 #![tactic(auto)]
 
-mod gathering;
+mod latest;
 mod laws;
 mod part;
+mod passing;
 mod reading;
 mod sending;
 mod sent;

@@ -7,7 +7,7 @@ ghost use Rattle.mx_parts.specs.Readings.{IsRead, events_of, front_of, room_in, 
 ghost use Rattle.mx_snapshot.specs.Looks.{all_now};
 ghost use Rattle.mx_lazy.specs.OfVisible.Walks.{all_sighted, sighted};
 
-use crate::gathering::passes;
+use crate::passing::passes;
 use crate::reading::Reading;
 use mx_event::Event;
 use mx_ids::Memory;

@@ -7,7 +7,7 @@ ghost use Rattle.mx_parts.specs.Picks.{Covers, NamesAll, hero_pair, is_early_by,
 ghost use Rattle.mx_parts.specs.Readings.{IsRead, events_of, room_in};
 ghost use Rattle.mx_snapshot.specs.Looks.{all_now};
 
-use crate::gathering::keeps;
+use crate::passing::keeps;
 use crate::reading::Reading;
 use crate::under_keys::{StateKey, standing_under};
 use mx_event::Event;

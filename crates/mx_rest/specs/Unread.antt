@@ -1,4 +1,5 @@
 pub mod Counts
 pub mod Kept
+pub mod Tallies
 pub mod Tally
 pub mod Unread

@@ -4,7 +4,7 @@ ghost use Rattle.std.specs.Prelude.{◌≡◌, true, not, take, IfOk};
 ghost use Rattle.mx_fold.specs.Lists.{fronts_of, upto};
 ghost use Rattle.mx_snapshot.specs.Looks.{all_now};
 ghost use Rattle.mx_snapshot.specs.Receipts.{of_room};
-ghost use Rattle.mx_unread.specs.Kept.{StandAll};
+ghost use Rattle.mx_unread.specs.Standing.{Stand};
 ghost use Rattle.mx_view.specs.Tokens.{is_before};
 ghost use Rattle.mx_rest.specs.Rests.{counts_in, news, same_counts};
 ghost use Rattle.mx_rest.specs.Servers.{AreValid, lists_of};
@@ -13,21 +13,21 @@ ghost use Rattle.mx_rest.specs.Walks.{is_uncounted};
 use crate::accounts::last_rules;
 use crate::receipts::has_own;
 use crate::rest::Rest;
-use mx_ids::{Memory, Seq, SyncToken};
+use mx_ids::{Memory, SyncToken};
 use mx_receipt::Receipt;
-use mx_unread::{Counts, Tally, counts_with};
+use mx_unread::{Counts, Tallies, counts_with};
 use std::alloc::Global;
 
 /// The counts at the snapshot's fronts, by tallies that stand for it.
 pub(crate) fn counts_now(
     alloc: Global,
     rest: &Rest<'_>,
-    tallies: &mut Seq<Tally>,
+    tallies: &mut Tallies,
 ) -> Result<Counts, Memory>
     requires valid { AreValid (lists_of rest.now.snapshot.now) }
-    requires stand { StandAll rest.now.snapshot.now tallies.old }
+    requires stand { Stand rest.now.snapshot.now tallies.old }
     ensures counts { IfOk result (λ c. c ≡ counts_in rest.now.user.now rest.now.room.now (lists_of rest.now.snapshot.now)) }
-    ensures stand { StandAll rest.now.snapshot.now tallies.new }
+    ensures stand { Stand rest.now.snapshot.now tallies.new }
 {
     let fronts = SyncToken {
         e: rest.snapshot.events.front(),
@@ -53,15 +53,15 @@ pub(crate) fn counts_since(
     rest: &Rest<'_>,
     since: &SyncToken,
     receipts: &[&Receipt],
-    tallies: &mut Seq<Tally>,
+    tallies: &mut Tallies,
 ) -> Result<Counted, Memory>
     requires valid { AreValid (lists_of rest.now.snapshot.now) }
     requires behind { is_before since.now (fronts_of (lists_of rest.now.snapshot.now)) ≡ true }
     requires receipts { all_now receipts.now ≡ of_room rest.now.room.now (news (take since.now.r rest.now.snapshot.now.receipts) rest.now.snapshot.now.receipts) }
-    requires stand { StandAll rest.now.snapshot.now tallies.old }
+    requires stand { Stand rest.now.snapshot.now tallies.old }
     ensures now { IfOk result (λ c. c.now ≡ counts_in rest.now.user.now rest.now.room.now (lists_of rest.now.snapshot.now)) }
     ensures differ { IfOk result (λ c. c.differ ≡ not (same_counts (counts_in rest.now.user.now rest.now.room.now (upto since.now (lists_of rest.now.snapshot.now))) (counts_in rest.now.user.now rest.now.room.now (lists_of rest.now.snapshot.now)))) }
-    ensures stand { StandAll rest.now.snapshot.now tallies.new }
+    ensures stand { Stand rest.now.snapshot.now tallies.new }
 {
     let _events = rest.snapshot.events.front();
     let _receipts = rest.snapshot.receipts.front();

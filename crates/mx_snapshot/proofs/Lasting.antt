@@ -44,3 +44,10 @@ one_last ps n d is = ap (last_at itself 0) (sym (at_end ps n d is))
 pub no_last : (ps : List ℕ) → length ps ≡ 0 → 0 ≡ last_position itself always ps
 no_last [] is = refl
 no_last (p ∷ ps) is = absurd (omega (arith, is))
+
+pub final_some : (ps : List ℕ) (n d : ℕ) → suc n ≡ length ps → Some (slice_index_or ps n d) ≡ last_of always ps
+final_some ps n d is = sym (at_end ps n d is)
+
+pub final_none : (ps : List ℕ) → length ps ≡ 0 → None ≡ last_of always ps
+final_none [] is = refl
+final_none (p ∷ ps) is = absurd (omega (arith, is))

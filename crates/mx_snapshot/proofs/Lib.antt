@@ -11,6 +11,7 @@ mod Looked
 mod Entries
 mod Grouped
 mod Standing
+mod Current
 mod Walked
 mod Firsts
 mod Crosses

@@ -1,5 +1,5 @@
 -- Events that the index finds.
-use Rattle.std.proofs.Common.{◌≡◌, ℕ, ◌≤◌, ◌*◌, ◌+◌, Bool, true, false, cond, ◌&&◌, length, List, [], ◌∷◌, ◌++◌, Option, Some, map, fold, option_map, nat_le, nat_lt, Ordering, Less, Equal, Greater, refl, sym, subst, ap, ap₂, ◌∙◌}
+use Rattle.std.proofs.Common.{◌≡◌, ℕ, ◌≤◌, ◌*◌, ◌+◌, Bool, true, false, cond, ◌&&◌, length, List, [], ◌∷◌, ◌++◌, Option, Some, is_some, map, fold, option_map, nat_le, nat_lt, Ordering, Less, Equal, Greater, refl, sym, subst, ap, ap₂, ◌∙◌}
 use Rattle.std.specs.List.{AllByRecursion}
 use Rattle.std.specs.BTreeMap.{insert_entry}
 use Rattle.std.specs.Ordering.{match_ordering}
@@ -11,7 +11,7 @@ use Rattle.mx_event.specs.Kinds.{has_key}
 use Rattle.mx_event.specs.Lawful.{of_room, same_room}
 use Rattle.mx_event.specs.Shown.{position_of}
 use Rattle.mx_event.specs.declared.event.Event.{Event}
-use Rattle.mx_snapshot.specs.Events.{versions, is_version, is_own, with_own, rooms_of, place_of}
+use Rattle.mx_snapshot.specs.Events.{states, is_state, versions, is_version, is_own, with_own, rooms_of, place_of}
 use Rattle.mx_snapshot.specs.Lists.{room_cmp}
 use Rattle.mx_snapshot.specs.Looks.{at_position, own_looked, with_room}
 use Rattle.mx_snapshot.proofs.Found.{Found, all_found, in_position, last_among, last_same, length_positions, test_last}
@@ -35,6 +35,38 @@ last_version es room kind key last ps o placed is found =
     ∙ last_same (λ (e : Event). window e && (room_is e && has_key kind key e)) (λ (e : Event). room_is e && (window e && has_key kind key e)) es (swapped room_is window (has_key kind key) es)
     ∙ sym (last_among (λ (e : Event). window e && has_key kind key e) room_is es)
     ∙ sym (last_among (has_key kind key) window (of_room room es))
+
+-- a room's last event up to a position
+pub last_event : (es : List Event) (room : RoomId) (high : ℕ) (ps : List ℕ) (o : Option ℕ) → stand_from position_of 1 es ≡ true → ps ≡ map position_of (of_room room es)
+    → o ≡ last_of (λ p. nat_le p high) ps → in_position es o ≡ last_of (λ e. true) (between position_of 0 high (of_room room es))
+last_event es room high ps o placed is found =
+    let window = λ (e : Event). nat_lt 0 e.id.at && nat_le e.id.at high in
+    let room_is = λ (e : Event). same_room e.room room in
+    test_last position_of es room_is ps placed is high o found
+    ∙ last_same (λ (e : Event). window e && room_is e) (λ (e : Event). room_is e && (window e && true)) es (all_turned window room_is es)
+    ∙ sym (last_among (λ (e : Event). window e && true) room_is es)
+    ∙ sym (last_among (λ (e : Event). true) window (of_room room es)) where
+      turned : (a b : Bool) → (a && b) ≡ (b && (a && true))
+      turned true true = refl
+      turned true false = refl
+      turned false true = refl
+      turned false false = refl
+
+      all_turned : (p q : Event → Bool) (es : List Event) → AllByRecursion (λ (e : Event). (p e && q e) ≡ (q e && (p e && true))) es
+      all_turned p q [] = tt
+      all_turned p q (e ∷ es) = (turned (p e) (q e), all_turned p q es)
+
+-- a room's last state event up to a position
+pub last_state_event : (es : List Event) (room : RoomId) (high : ℕ) (ps : List ℕ) (o : Option ℕ) → stand_from position_of 1 es ≡ true → ps ≡ map position_of (states room es)
+    → o ≡ last_of (λ p. nat_le p high) ps → in_position es o ≡ last_of (λ e. is_some e.state_key) (between position_of 0 high (of_room room es))
+last_state_event es room high ps o placed is found =
+    let window = λ (e : Event). nat_lt 0 e.id.at && nat_le e.id.at high in
+    let room_is = λ (e : Event). same_room e.room room in
+    let keyed = λ (e : Event). is_some e.state_key in
+    test_last position_of es (is_state room) ps placed is high o found
+    ∙ last_same (λ (e : Event). window e && (room_is e && keyed e)) (λ (e : Event). room_is e && (window e && keyed e)) es (swapped room_is window keyed es)
+    ∙ sym (last_among (λ (e : Event). window e && keyed e) room_is es)
+    ∙ sym (last_among keyed window (of_room room es))
 
 -- ---- a user's rooms
 

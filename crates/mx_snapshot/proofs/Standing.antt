@@ -37,7 +37,7 @@ use Rattle.mx_snapshot.proofs.Found.{Found, all_found, last_found, last_mapped, 
 use Rattle.mx_snapshot.proofs.Grouped.{AreApart, grouped, same_sorted}
 use Rattle.mx_snapshot.proofs.Looked.{last_version}
 
-and_no : (b : Bool) → (b && false) ≡ false
+pub and_no : (b : Bool) → (b && false) ≡ false
 and_no true = refl
 and_no false = refl
 
@@ -52,13 +52,13 @@ or_yes false = refl
 -- ---- keys that are texts
 
 -- the test by which a look-up finds a text
-abbrev is_key : List ℕ → String Global → Bool
+abbrev pub is_key : List ℕ → String Global → Bool
 is_key text s = is_eq (slice_cmp nat_cmp text (string_bytes s))
 
-key_same : (text : List ℕ) (s : String Global) → is_key text s ≡ true → bytes_eq text (string_bytes s) ≡ true
+pub key_same : (text : List ℕ) (s : String Global) → is_key text s ≡ true → bytes_eq text (string_bytes s) ≡ true
 key_same text s is = sym (is_eq-slice_cmp text (string_bytes s)) ∙ is
 
-first_apart : (a b : String Global) → string_cmp a b ≡ Less → bytes_eq (string_bytes a) (string_bytes b) ≡ false
+pub first_apart : (a b : String Global) → string_cmp a b ≡ Less → bytes_eq (string_bytes a) (string_bytes b) ≡ false
 first_apart a b less = sym (is_eq-slice_cmp (string_bytes a) (string_bytes b)) ∙ ap is_eq less
 
 later_apart : (a b : String Global) → string_cmp a b ≡ Less → bytes_eq (string_bytes b) (string_bytes a) ≡ false
@@ -70,12 +70,12 @@ later_apart a b less = by_test (bytes_eq (string_bytes b) (string_bytes a)) refl
   by_test false is = refl
 
 module _ {V : Type 0} where
-  of_keys : (P : String Global → Type 0) (es : List (String Global × V)) → AllByRecursion P (keys_of es) → AllByRecursion (λ (e : String Global × V). P e.0) es
+  pub of_keys : (P : String Global → Type 0) (es : List (String Global × V)) → AllByRecursion P (keys_of es) → AllByRecursion (λ (e : String Global × V). P e.0) es
   of_keys P [] all = tt
   of_keys P (e ∷ es) all = (all.0, of_keys P es all.1)
 
   -- each entry is found under its key
-  own_found : (es : List (String Global × V)) → IsStrictlySortedBy string_cmp (keys_of es) → AllByRecursion (λ (e : String Global × V). lookup (is_key (string_bytes e.0)) es ≡ Some e.1) es
+  pub own_found : (es : List (String Global × V)) → IsStrictlySortedBy string_cmp (keys_of es) → AllByRecursion (λ (e : String Global × V). lookup (is_key (string_bytes e.0)) es ≡ Some e.1) es
   own_found [] order = tt
   own_found (e ∷ es) order = (
     ap (λ b. cond b (Some e.1) (lookup (is_key (string_bytes e.0)) es)) (is_eq-slice_cmp (string_bytes e.0) (string_bytes e.0) ∙ (bytes_eq-Decides (string_bytes e.0) (string_bytes e.0)).1 refl),
@@ -86,7 +86,7 @@ module _ {V : Type 0} where
   )
 
   -- what a look-up finds is an entry that passes
-  some_entry : (test : String Global → Bool) (g : String Global × V → Bool) (es : List (String Global × V)) (v : V) → lookup test es ≡ Some v → ((s : String Global) → test s ≡ true → g (s, v) ≡ true) → list_any g es ≡ true
+  pub some_entry : (test : String Global → Bool) (g : String Global × V → Bool) (es : List (String Global × V)) (v : V) → lookup test es ≡ Some v → ((s : String Global) → test s ≡ true → g (s, v) ≡ true) → list_any g es ≡ true
   some_entry test g [] v is here = absurd (none-some v is)
   some_entry test g (e ∷ es) v is here = by_test (test e.0) refl is (λ later. some_entry test g es v later here) where
     by_test : (b : Bool) → test e.0 ≡ b → cond b (Some e.1) (lookup test es) ≡ Some v → (lookup test es ≡ Some v → list_any g es ≡ true) → (g e || list_any g es) ≡ true

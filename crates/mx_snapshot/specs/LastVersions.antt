@@ -7,7 +7,7 @@ use Rattle.std.specs.Option.{option_to_list}
 use Rattle.std.specs.String.{string_cmp}
 use Rattle.std.specs.declared.alloc.Global.{Global}
 use Rattle.mx_window.specs.Lasts.{last_of}
-use Rattle.mx_snapshot.specs.Lists.{Keys, Kinds}
+use Rattle.mx_snapshot.specs.Lists.{Keys, Kinds, always}
 
 abbrev pub last_upto : ℕ → List ℕ → List ℕ
 last_upto last positions = option_to_list (last_of (λ p. nat_le p last) positions)
@@ -24,3 +24,7 @@ EachOrdered es = AllByRecursion (λ (e : String Global × Keys). tree.IsOrdered 
 
 abbrev pub AreOrdered : Kinds → Type 0
 AreOrdered kinds = tree.IsOrdered string_cmp kinds × EachOrdered kinds.entries
+
+-- the last position of each key
+abbrev pub key_tops : List (String Global × Vec ℕ) → List ℕ
+key_tops es = flat_map (λ (e : String Global × Vec ℕ). option_to_list (last_of always e.1.items)) es

@@ -7,10 +7,10 @@ ghost use Rattle.mx_window.specs.Lasts.{last_of};
 ghost use Rattle.mx_window.specs.Windows.{between};
 ghost use Rattle.mx_account.specs.Entries.{is_data_of, position_of};
 ghost use Rattle.mx_account.specs.Values.{AreInPlace};
-ghost use Rattle.mx_snapshot.specs.Accounts.{IsIndexed, filters_of, is_users, of_user};
+ghost use Rattle.mx_snapshot.specs.Accounts.{IsIndexed, filters_of, is_users, of_user, standing_data};
 ghost use Rattle.mx_snapshot.specs.Looks.{all_now, at_position, last_position};
 
-use crate::account_index::AccountIndex;
+use crate::account_index::{AccountIndex, tops};
 use crate::gather::gather;
 use crate::looks::{key_positions, kind_positions, version_positions};
 use crate::positions::{last_one, last_to, within};
@@ -111,6 +111,26 @@ impl Accounts {
         ensures { result ≡ last_position position_of (is_users user.now) self.now }
     {
         last_one(key_positions(&self.index.users, user))
+    }
+
+    /// The last data of a user under each type, of a room or global ones where there is no room, in order of position. Takes
+    /// the time of a look-up, of these types, however often each was set, and of sorting what is found; memory for as many
+    /// positions and references.
+    pub fn standing(
+        &self,
+        alloc: Global,
+        user: &str,
+        room: Option<&RoomId>,
+    ) -> Result<Vec<&Entry>, Memory>
+        ensures { IfOk result (λ made. all_now made.items ≡ standing_data user.now (option_copied room.entry) self.now) }
+    {
+        match self.index.types_of(user, room) {
+            Some(types) => {
+                let positions = tops(alloc, types)?;
+                gather(alloc, &self.entries, positions.as_slice())
+            }
+            None => Ok(Vec::new(alloc)),
+        }
     }
 
     /// The filters that a user stored, at the positions after `low` and up to `high`, in their order. Takes the time of two searches

@@ -1,6 +1,6 @@
 //! The events of a stream up to its front.
 
-ghost use Rattle.std.specs.Prelude.{◌*◌, ◌-◌, ◌^◌, ◌≡◌, ◌≤◌, ◌<◌, ◌+◌, [], option_map, ◌++◌, true, filter, length, map, take, nat_le, IfOk, OnErr, OnOk};
+ghost use Rattle.std.specs.Prelude.{◌*◌, ◌-◌, ◌^◌, ◌≡◌, ◌≤◌, ◌<◌, ◌+◌, [], option_map, is_some, ◌++◌, true, filter, length, map, take, nat_le, IfOk, OnErr, OnOk};
 ghost use Rattle.std.specs.Option.{option_copied, option_to_list};
 ghost use Rattle.mx_event.specs.Core.History.{Begins};
 ghost use Rattle.mx_window.specs.Lasts.{keep_if, last, last_of};
@@ -127,6 +127,16 @@ impl Events {
         gather(alloc, &self.events, ending(positions, high, most))
     }
 
+    /// The last event of a room up to a position. Takes the time of a search among the room's events, and no memory.
+    pub fn last_to(&self, room: &RoomId, high: u64) -> Option<&Event>
+        ensures { option_copied result ≡ last_of (λ e. true) (between position_of 0 high (of_room room.now self.now)) }
+    {
+        let positions = room_positions(&self.index.rooms, room);
+        let mut steps = Steps::new();
+        let position = last_to(positions, high, &mut steps)?;
+        self.events.at(position)
+    }
+
     /// The position of a room's last event, or 0 where it has none. Takes the time of a look-up, and no memory.
     pub fn last_in(&self, room: &RoomId) -> u64
         ensures { result ≡ last_position position_of (λ e. same_room e.room room.now) self.now }
@@ -169,6 +179,17 @@ impl Events {
     {
         let positions = room_positions(&self.index.states, room);
         gather(alloc, &self.events, within(positions, low, high))
+    }
+
+    /// The last state event of a room up to a position. Takes the time of a search among the room's state events, and no
+    /// memory.
+    pub fn last_state(&self, room: &RoomId, high: u64) -> Option<&Event>
+        ensures { option_copied result ≡ last_of (λ e. is_some e.state_key) (between position_of 0 high (of_room room.now self.now)) }
+    {
+        let positions = room_positions(&self.index.states, room);
+        let mut steps = Steps::new();
+        let position = last_to(positions, high, &mut steps)?;
+        self.events.at(position)
     }
 
     /// The state events of a room that are the last of their type and key up to a position, in their order: the room's state

@@ -76,3 +76,15 @@ pub(crate) fn last_one(positions: &[u64]) -> u64
     let count = positions.len();
     if count == 0 { 0 } else { positions[count - 1] }
 }
+
+/// The last of some positions, where there are any.
+pub(crate) fn top(positions: &[u64]) -> Option<u64>
+    ensures { result ≡ last_of always positions.now }
+{
+    let count = positions.len();
+    if count == 0 {
+        None
+    } else {
+        Some(positions[count - 1])
+    }
+}

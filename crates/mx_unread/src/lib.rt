@@ -6,14 +6,16 @@
 //! says of the streams, of which each room's list is valid.
 //!
 //! A [`Tally`] keeps the counts of a user in a room at a token with the positions of the unread events, so that `advance`
-//! to a later token costs what came to the room since. `counts_with` counts by a list of tallies, of which it keeps those
-//! that were used last. The law `tallies_last` says that a tally stands for each longer snapshot.
+//! to a later token costs what came to the room since. `counts_with` counts by [`Tallies`], which keep those that were used
+//! last, and the push rules that were read last. The laws `tallies_last` and `rules_last` say that these stand for each longer
+//! snapshot.
 //!
 //! The law `counts_stay` says that the numbers stay the same where nothing came on which they rest, so a sync needn't
 //! count anew. `rules_at` gives the push rules that stand at a position.
 //!
 //! Begin with `counting.rt` and `specs/Unread.antt`; `window.rt` has what isn't read, `decider.rt` how one event is
-//! judged. Of tallies begin with `running.rt`, `advancing.rt` and `specs/Kept.antt`.
+//! judged. Of tallies begin with `running.rt`, `advancing.rt` and `specs/Kept.antt`, of kept push rules with `read_rules.rt`
+//! and `specs/Standing.antt`.
 #![tactic(auto)]
 
 mod advancing;
@@ -29,17 +31,20 @@ mod levels;
 mod marks;
 mod news;
 mod pooling;
+mod read_rules;
 mod running;
 mod same_rules;
 mod stored_rules;
+mod tallies;
 mod unread_counts;
 mod window;
 
 pub use beginning::tally;
 pub use counting::counts;
-pub use laws::{counts_stay, tallies_last};
+pub use laws::{counts_stay, rules_last, tallies_last};
 pub use mx_lazy::{Summary, summary};
 pub use pooling::counts_with;
 pub use running::Tally;
 pub use stored_rules::rules_at;
+pub use tallies::Tallies;
 pub use unread_counts::Counts;

@@ -17,6 +17,18 @@ joins user e = is_own user e && is_join (membership_of e)
 abbrev pub last_join : List ℕ → ℕ → List Event → ℕ
 last_join user front es = last_at position_of 0 (last_of (joins user) (between position_of 0 front es))
 
+-- the user's member event or a history-visibility event: between two of them the user sees all of a room's events or none
+abbrev pub is_mark : List ℕ → Event → Bool
+is_mark user e = is_own user e || is_setting e
+
+-- the position of the last such event of a room up to a position, or 0
+abbrev pub last_mark : List ℕ → ℕ → List Event → ℕ
+last_mark user high es = last_at position_of 0 (last_of (is_mark user) (between position_of 0 high es))
+
+-- the position of the last event of a window that the user sees at a front, or the window's lower end
+abbrev pub last_visible : List ℕ → List Event → ℕ → ℕ → ℕ → ℕ
+last_visible user es low high front = last_at position_of low (last_of (is_visible (viewer_of user) es front) (between position_of low high es))
+
 -- events of a room, each with whether the user sees it at a front
 abbrev pub sights : List ℕ → List Event → ℕ → List Event → List (Event × Bool)
 sights user es front window = map (λ e. (e, is_visible (viewer_of user) es front e)) window
@@ -29,6 +41,10 @@ pub record IsStanding (user : List ℕ) (front : ℕ) (past rest window : List E
   pub last_is : last ≡ last_join user front (past ++ (window ++ rest))
 
 -- ---- what the code does
+
+-- where an event of a room is hidden, so are those before it that lie after this position
+abbrev pub hidden_after : List ℕ → List Event → Event → ℕ
+hidden_after user es e = if is_mark user e then e.id.at - 1 else last_mark user (e.id.at - 1) es
 
 -- what stands under a key after one event more
 abbrev pub newer : Bool → Event → Option Event → Option Event

@@ -1,8 +1,5 @@
-use Rattle.mx_parts.specs.Readings.{events_of, front_of}
-use Rattle.mx_pager.proofs.Unseen.{nothing_seen}
+use Rattle.mx_pager.proofs.Upper.{sees_is}
 use Rattle.mx_pager.proofs.seeing.sees_room.Goals as goal
 
-pub returns-else-may : goal.returns-else-may
-returns-else-may c =
-    let v = c.args.reading.now in
-    nothing_seen v.user.now (events_of v) (front_of v) c.in_ok-may.may c.in_ok-may.ensures c.if-may.false
+pub returns : goal.returns
+returns c = sees_is c.args.reading.now c.front-front.ensures.placed c.front-front.result c.last_visible-last.result c.front-front.ensures.count c.last_visible-last.ensures

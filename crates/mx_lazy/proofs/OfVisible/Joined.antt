@@ -1,0 +1,1 @@
+pub use Rattle.mx_visible.proofs.Joined.{back}

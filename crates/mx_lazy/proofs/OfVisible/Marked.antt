@@ -1,0 +1,1 @@
+pub use Rattle.mx_visible.proofs.Marked.{ended, found_here, none_left, own_room}

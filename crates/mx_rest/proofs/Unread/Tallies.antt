@@ -1,0 +1,1 @@
+pub use Rattle.mx_unread.proofs.Crosses.{tallies_send}
