@@ -33,7 +33,7 @@ pub parts_now : (held now more : List ℕ) (parts : Head) → HasParts held part
 parts_now held now more parts x e = subst (λ l. HasParts l parts) (sym e) (more_parts held more parts x)
 
 -- a head and a part of its body
-body_cut : (held : List ℕ) (parts : Head) → HasParts held parts → length held < parts.len + parts.size → IsUnfinished held × (IsBlank held → ⊥)
+pub body_cut : (held : List ℕ) (parts : Head) → HasParts held parts → length held < parts.len + parts.size → IsUnfinished held × (IsBlank held → ⊥)
 body_cut held parts x short = (
   inr record {
     head = x.head;

@@ -5,6 +5,7 @@ pub mod Spans
 pub mod Target
 pub mod Window
 pub mod Parts
+pub mod Intakes
 pub mod Answers
 pub mod Queries
 pub mod Stages

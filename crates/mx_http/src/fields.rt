@@ -1,5 +1,5 @@
 //! What the field lines of a head say.
-ghost use Rattle.std.specs.Prelude.{◌≡◌, ◌<◌, ◌≤◌, [], length, reverse, codes, IfSome};
+ghost use Rattle.std.specs.Prelude.{◌≡◌, ◌<◌, ◌≤◌, [], length, reverse, codes, IfOk, IfSome};
 ghost use Rattle.std.specs.List.{list_any};
 ghost use Rattle.std.specs.Option.{option_map};
 ghost use Rattle.std.specs.Str.{str_to_ascii_lowercase};
@@ -17,7 +17,8 @@ pub const BODY_LIMIT: usize = 1_048_576;
 /// The number of bytes of the body, or why the field lines say none.
 pub fn body_size(bytes: &[u8], fields: &[HeaderSpan]) -> Result<usize, HttpFault>
     requires { AreWithin bytes.now fields.now }
-    ensures { result ≡ body_size (pairs_at bytes.now fields.now) }
+    ensures value { result ≡ body_size (pairs_at bytes.now fields.now) }
+    ensures most { IfOk result (λ size. size ≤ BODY_LIMIT) }
 {
     if find_value(b"transfer-encoding", bytes, fields).is_some() {
         return Err(HttpFault::Coding);

@@ -2,6 +2,8 @@
 ghost use Rattle.std.specs.Prelude.{◌≡◌, ◌-◌, ◌<◌, ◌≤◌, [], length, take, drop, OnOk, IfOk, IsErrOf};
 ghost use Rattle.mx_outside.specs.Causes.{CountsFailed, Rose};
 ghost use Rattle.mx_outside.specs.Moves.{FitsRoom, Moves};
+ghost use Rattle.mx_outside.specs.Ports.{Counts, FitsNow, MovesNow, has_failed_to_take, has_waited_to_take};
+ghost use Rattle.mx_http.specs.Intakes.{FillsNow, has_failed, has_waited};
 ghost use Rattle.mx_http.specs.Reads.{CountsReadFault};
 ghost use Rattle.mx_http.specs.Window.{Fills};
 
@@ -9,12 +11,9 @@ use crate::fault::HttpFault;
 use crate::fields::BODY_LIMIT;
 use crate::grammar::HEAD_LIMIT;
 use mx_ids::Memory;
-use mx_outside::{Source, Took};
+use mx_outside::{Port, Source, Took, TookNow};
 use std::alloc::Global;
 use std::marker::Model;
-
-/// The room for bytes at the start.
-const FIRST_ROOM: usize = 32_768;
 
 /// The most room that is made: that of the longest request.
 pub const MOST_ROOM: usize = HEAD_LIMIT + BODY_LIMIT;
@@ -43,12 +42,14 @@ impl Model for Held {
 }
 
 impl Held {
-    /// No bytes yet.
-    pub fn new(alloc: Global) -> Result<Held, Memory>
+    /// No bytes yet, with room for so many.
+    pub fn with_room(alloc: Global, room: usize) -> Result<Held, Memory>
+        requires some { 0 < room }
+        requires most { room ≤ MOST_ROOM }
         ensures { IfOk result (λ h. h.held ≡ []) }
     {
         let mut bytes = Vec::new(alloc);
-        bytes.resize(FIRST_ROOM, 0)?;
+        bytes.resize(room, 0)?;
         Ok(Held {
             bytes,
             start: 0,
@@ -63,7 +64,8 @@ impl Held {
     }
 
     pub fn len(&self) -> usize
-        ensures { result ≡ length self.now.held }
+        ensures value { result ≡ length self.now.held }
+        ensures most { result ≤ MOST_ROOM }
     {
         self.end - self.start
     }
@@ -92,6 +94,26 @@ impl Held {
             }
             Took::End => Ok(false),
             Took::Failed => Err(HttpFault::ReadFault),
+        }
+    }
+
+    /// Takes a piece from a port, if one has come.
+    pub fn take_now<P: Port>(&mut self, port: &mut P) -> Result<TookNow, Memory>
+        requires { length self.old.held < MOST_ROOM }
+        ensures fills { FillsNow (P.left port.old) (P.left port.new) self.old.held self.new.held result }
+        ensures written { P.written port.new ≡ P.written port.old }
+        ensures faults { Counts (has_failed result) (P.faults port.old) (P.faults port.new) }
+        ensures waits { Counts (has_waited result) (P.waits port.old) (P.waits port.new) }
+    {
+        self.make_room()?;
+        match take_behind_now(port, self.bytes.as_mut_slice(), self.end) {
+            TookNow::Got(count) => {
+                self.end += count;
+                Ok(TookNow::Got(count))
+            }
+            TookNow::NotYet => Ok(TookNow::NotYet),
+            TookNow::End => Ok(TookNow::End),
+            TookNow::Failed => Ok(TookNow::Failed),
         }
     }
 
@@ -147,4 +169,17 @@ fn take_behind<S: Source>(source: &mut S, bytes: &mut [u8], end: usize) -> Took
     ensures cause { result ≡ Took.Failed → Rose (S.faults source.old) (S.faults source.new) }
 {
     source.take(&mut bytes[end..])
+}
+
+/// Takes bytes that have come into the room from `end` on.
+fn take_behind_now<P: Port>(port: &mut P, bytes: &mut [u8], end: usize) -> TookNow
+    requires { end < length bytes.old }
+    ensures front { take end bytes.new ≡ take end bytes.old }
+    ensures moves { MovesNow (P.left port.old) (P.left port.new) result (drop end bytes.new) }
+    ensures room { FitsNow result (length bytes.old - end) }
+    ensures written { P.written port.new ≡ P.written port.old }
+    ensures faults { Counts (has_failed_to_take result) (P.faults port.old) (P.faults port.new) }
+    ensures waits { Counts (has_waited_to_take result) (P.waits port.old) (P.waits port.new) }
+{
+    port.take_now(&mut bytes[end..])
 }

@@ -1,41 +1,39 @@
 //! The reader of requests.
-ghost use Rattle.std.specs.Prelude.{◌≡◌, ◌↔◌, ◌⊎◌, true, false, ◌<◌, ◌≤◌, ◌++◌, ℕ, List, [], length, drop, slice_range, IfErr, IfOk, OnOk, OnErr, IsErrOf, IsTrue};
-ghost use Rattle.std.specs.Io.KnownBytes.{prepend_known, Keeps, IsAtEnd};
+ghost use Rattle.std.specs.Prelude.{◌≡◌, ◌⊎◌, ◌≤◌, ◌++◌, ℕ, List, [], length, IfErr, IfOk, OnOk, IsErrOf};
+ghost use Rattle.std.specs.Io.KnownBytes.{prepend_known, Keeps};
 ghost use Rattle.mx_outside.specs.Causes.{Rose};
 ghost use Rattle.mx_http.specs.Reads.{CountsReadFault, Reads};
-ghost use Rattle.mx_http.specs.Calls.{AreLineEnds, IsBlank, IsOpenHead};
-ghost use Rattle.mx_http.specs.Parts.{EndsWith, FindsHead, GivesHead, Lacks};
-ghost use Rattle.mx_http.specs.Window.{IsFillFault};
+ghost use Rattle.mx_http.specs.Calls.{IsBlank, IsOpenHead};
+ghost use Rattle.mx_http.specs.Parts.{EndsWith, GivesHead, Lacks};
 
 use crate::call::Call;
 use crate::fault::HttpFault;
-use crate::grammar::FIELD_ROOM;
-use crate::head::{Head, read_head};
-use crate::held::{Held, MOST_ROOM};
-use crate::target::are_line_ends;
-use httparse::spans::{EMPTY_HEADER_SPAN, HeaderSpan};
-use mx_ids::{Memory, Seq};
+use crate::head::Head;
+use crate::held::MOST_ROOM;
+use crate::intake::{Intake, Scratch};
+use mx_ids::Memory;
 use mx_outside::Source;
 use std::alloc::Global;
 use std::marker::Model;
+
+/// A reader has room for so many bytes at the start.
+const FIRST_ROOM: usize = 32_768;
 
 /// Reads the requests of one connection, one after the other. Contracts see it as the list of the
 /// bytes that it holds: those that it took from its source and that belong to no request that it
 /// gave.
 #[derive(Drop)]
 pub struct Reader {
-    held: Held,
-    fields: Vec<HeaderSpan>,
+    intake: Intake,
+    scratch: Scratch,
 }
 
 impl Model for Reader {
-    ghost use Rattle.std.specs.Prelude.{◌≡◌, List, ℕ, vec_len};
+    ghost use Rattle.std.specs.Prelude.{List, ℕ};
 
     ghost Value = { List ℕ };
 
-    ghost view = { λ r. r.held.held };
-
-    ghost invariant = { λ r. vec_len r.fields ≡ 5600 };
+    ghost view = { λ r. r.intake };
 }
 
 impl Reader {
@@ -43,11 +41,9 @@ impl Reader {
     pub(crate) fn new(alloc: Global) -> Result<Reader, Memory>
         ensures { IfOk result (λ r. r ≡ []) }
     {
-        let mut fields = Vec::new(alloc);
-        fields.resize(FIELD_ROOM, EMPTY_HEADER_SPAN)?;
         Ok(Reader {
-            held: Held::new(alloc)?,
-            fields,
+            scratch: Scratch::new(alloc)?,
+            intake: Intake::with_room(alloc, FIRST_ROOM)?,
         })
     }
 
@@ -75,7 +71,7 @@ impl Reader {
         };
         let (start, end) = (head.len, head.len + head.size);
         self.fill_to(source, end)?;
-        let body = self.give(alloc, start, end)?;
+        let body = self.intake.give(alloc, start, end)?;
         Ok(Some(head.with_body(body)))
     }
 
@@ -92,10 +88,10 @@ impl Reader {
         ensures cause { IsErrOf result HttpFault.ReadFault → Rose (S.faults source.old) (S.faults source.new) }
     {
         'more: loop {
-            if let Some(head) = self.find_head(alloc)? {
+            if let Some(head) = self.intake.find_head(alloc, &mut self.scratch)? {
                 return Ok(Some(head));
             }
-            if !self.fill(source)? {
+            if !self.intake.fill(source)? {
                 return self.end_of_source();
             }
         }
@@ -112,28 +108,12 @@ impl Reader {
         ensures counted { CountsReadFault result (S.faults source.old) (S.faults source.new) }
         ensures cause { IsErrOf result HttpFault.ReadFault → Rose (S.faults source.old) (S.faults source.new) }
     {
-        'more: while self.held.len() < whole {
-            if !self.fill(source)? {
+        'more: while self.intake.len() < whole {
+            if !self.intake.fill(source)? {
                 return Err(HttpFault::Cut);
             }
         }
         Ok(())
-    }
-
-    /// Takes more bytes, and says whether there were any.
-    fn fill<S: Source>(&mut self, source: &mut S) -> Result<bool, HttpFault>
-        requires { length self.old < MOST_ROOM }
-        ensures kept { Keeps (prepend_known self.old (S.left source.old)) (prepend_known self.new (S.left source.new)) }
-        ensures grown { (more : List ℕ) × (self.new ≡ self.old ++ more) }
-        ensures longer { IfOk result (λ some. some ≡ true → length self.old < length self.new) }
-        ensures ended { IfOk result (λ some. some ≡ false → (self.new ≡ self.old) × IsAtEnd (S.left source.new)) }
-        ensures same { OnErr result (self.new ≡ self.old) }
-        ensures faults { IfErr result IsFillFault }
-        ensures count { S.faults source.old ≤ S.faults source.new }
-        ensures counted { CountsReadFault result (S.faults source.old) (S.faults source.new) }
-        ensures cause { IsErrOf result HttpFault.ReadFault → Rose (S.faults source.old) (S.faults source.new) }
-    {
-        self.held.fill(source)
     }
 
     /// What the end of the source makes of bytes at whose front no head is whole.
@@ -141,38 +121,10 @@ impl Reader {
         requires { IsOpenHead self.now ⊎ IsBlank self.now }
         ensures { EndsWith self.now result }
     {
-        if self.is_blank() {
+        if self.intake.is_blank() {
             Ok(None)
         } else {
             Err(HttpFault::Cut)
         }
-    }
-
-    /// The head at the front of the bytes, or none where it isn't whole yet.
-    fn find_head(&mut self, alloc: Global) -> Result<Option<Head>, HttpFault>
-        ensures finds { FindsHead self.new result }
-        ensures same { self.new ≡ self.old }
-    {
-        read_head(alloc, self.held.as_slice(), self.fields.as_mut_slice())
-    }
-
-    /// Whether the bytes are CR and LF alone.
-    fn is_blank(&self) -> bool
-        ensures { IsTrue result ↔ AreLineEnds self.now }
-    {
-        are_line_ends(self.held.as_slice())
-    }
-
-    /// Copies the bytes from `start` to `end`, and lets all go up to `end`.
-    fn give(&mut self, alloc: Global, start: usize, end: usize) -> Result<Seq<u8>, Memory>
-        requires ordered { start ≤ end }
-        requires within { end ≤ length self.old }
-        ensures given { IfOk result (λ bytes. bytes ≡ slice_range self.old start end) }
-        ensures after { OnOk result (self.new ≡ drop end self.old) }
-        ensures same { OnErr result (self.new ≡ self.old) }
-    {
-        let bytes = Vec::from_slice(alloc, &self.held.as_slice()[start..end])?;
-        self.held.advance(end);
-        Ok(Seq::from_vec(bytes))
     }
 }

@@ -5,3 +5,4 @@ pub mod Named
 pub mod Readings
 pub mod Accepts
 pub mod Starts
+pub mod Ports

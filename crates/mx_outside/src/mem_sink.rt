@@ -39,6 +39,14 @@ impl MemSink {
     {
         self.bytes.as_slice()
     }
+
+    /// What was written, as a list of its own.
+    pub fn into_bytes(self) -> Vec<u8>
+        ensures { result.items ≡ self.written }
+    {
+        let MemSink { bytes, calls: _ } = self;
+        bytes
+    }
 }
 
 impl Sink for MemSink {

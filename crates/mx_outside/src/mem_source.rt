@@ -73,7 +73,7 @@ impl Source for MemSource {
 }
 
 /// Copies the first `count` bytes of `from` to the front of `into`.
-fn copy_front(from: &[u8], count: usize, into: &mut [u8])
+pub(crate) fn copy_front(from: &[u8], count: usize, into: &mut [u8])
     requires there { count ≤ length from.now }
     requires room { count ≤ length into.old }
     ensures { take count into.new ≡ take count from.now }

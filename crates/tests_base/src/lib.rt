@@ -17,6 +17,8 @@ mod clocks;
 #[cfg(test)]
 mod ids_and_tokens;
 #[cfg(test)]
+mod intakes;
+#[cfg(test)]
 mod jobs;
 #[cfg(test)]
 mod json_values;
@@ -28,6 +30,8 @@ mod listeners;
 mod machine;
 #[cfg(test)]
 mod make;
+#[cfg(test)]
+mod ports;
 #[cfg(test)]
 mod requests;
 #[cfg(test)]

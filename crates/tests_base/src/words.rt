@@ -4,7 +4,8 @@ use std::alloc::{AllocError, AllocFailed, Global};
 use std::test::Fail;
 
 /// Words and, after a bar, what they ask: the users file, the address (`-` in mode `pipe`), the writers, the connections, the requests, the
-/// seconds of silence of a run and whether it ends with its input; `help` or `version`; or, after a `!`, why they are refused.
+/// seconds of silence of a run, whether it ends with its input and the journal, where one is named; `help` or `version`; or, after a `!`,
+/// why they are refused.
 const TABLE: &str = "\
 --users u.txt --mode pipe|u.txt - 1 64 1000 60 no
 --mode pipe --users u.txt|u.txt - 1 64 1000 60 no
@@ -19,6 +20,8 @@ const TABLE: &str = "\
 --users u.txt --mode pipe --connections 1000 --idle 1|u.txt - 1 1000 1000 1 no
 --idle=86400 --users u.txt --mode pipe|u.txt - 1 64 1000 86400 no
 --until-eof --users u.txt --mode serve --listen a:1|u.txt a:1 1 64 1000 60 yes
+--users u.txt --mode pipe --journal j.txt|u.txt - 1 64 1000 60 no j.txt
+--journal=j --until-eof --users u.txt --mode serve --listen a:1|u.txt a:1 1 64 1000 60 yes j
 --users pipe --mode pipe|pipe - 1 64 1000 60 no
 --users - --mode pipe|- - 1 64 1000 60 no
 --users=-u --mode pipe|-u - 1 64 1000 60 no
@@ -60,6 +63,8 @@ const TABLE: &str = "\
 --users u.txt --mode|!a value is required for '--mode <MODE>' but none was supplied
 --users --mode pipe|!a value is required for '--users <FILE>' but none was supplied
 --users -u --mode pipe|!unexpected argument '-u' found
+--users u.txt --mode pipe --journal|!a value is required for '--journal <FILE>' but none was supplied
+--users u.txt --mode pipe --journal j --journal k|!the argument '--journal <FILE>' cannot be used multiple times
 --users u.txt --mode pipe --mode pipe|!the argument '--mode <MODE>' cannot be used multiple times
 --users u.txt --users u.txt --mode pipe|!the argument '--users <FILE>' cannot be used multiple times
 --users u.txt -- --mode pipe|!unexpected argument '--mode' found
@@ -81,6 +86,7 @@ Options:
       --requests <N>      Requests that a connection is served, 1 to 4294967296 [default: 1000]
       --idle <N>          Seconds that a connection may be silent in mode serve, 1 to 86400 [default: 60]
       --until-eof         In mode serve, end once the standard input has ended
+      --journal <FILE>    The journal: what is stored is kept there, and is there after a restart
   -h, --help              Print help
   -V, --version           Print version
 ";
@@ -96,8 +102,8 @@ fn split(alloc: Global, text: &str) -> Result<Vec<String>, AllocError> {
     Ok(words)
 }
 
-/// Whether words say this: the users file, the address, the writers, the connections, the requests, the seconds of silence and
-/// the end.
+/// Whether words say this: the users file, the address, the writers, the connections, the requests, the seconds of silence, the end and
+/// the journal.
 fn say(words: &Words, told: &str) -> bool {
     let address = match &words.mode {
         Mode::Pipe => "-",
@@ -111,6 +117,7 @@ fn say(words: &Words, told: &str) -> bool {
         && is_number(fields.next(), words.requests)
         && is_number(fields.next(), words.idle)
         && fields.next() == Some(if words.until_eof { "yes" } else { "no" })
+        && fields.next() == words.journal.as_ref().map(|name| name.as_str())
 }
 
 fn is_number(field: Option<&str>, number: u64) -> bool {

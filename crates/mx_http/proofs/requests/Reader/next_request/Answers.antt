@@ -1,4 +1,4 @@
-use Rattle.std.proofs.Common.{◌+◌, refl}
+use Rattle.std.proofs.Common.{◌≡◌, ℕ, ◌+◌, List, drop, slice_range, refl, ap, ◌∙◌}
 use Rattle.std.specs.Io.KnownBytes.{prepend_known}
 use Rattle.std.proofs.KnownBytes.{Keeps-trans}
 use Rattle.std.proofs.lemmas.Result.{err_from_is_err_and}
@@ -21,5 +21,8 @@ returns-clause-reads g c =
     let held = c.fill_to.new.self in
     let found : HasParts c.fill_head.new.self parts = given_parts _ c.fill_head.new.self _ parts c.in-Some.is c.in_ok-head.ensures.gives in
     let now : HasParts held parts = parts_now c.fill_head.new.self held c.fill_to.ensures.grown.0 parts found c.fill_to.ensures.grown.1 in
+    let same : c.self.inside.intake ≡ held = c.self.view_is in
     call_given (prepend_known c.args.self.now (g.S.Source.left c.args.source.now)) (g.S.Source.left c.fill_to.new.source) held c.give.new.self c.in_ok-body.body parts c.with_body.result (parts.len + parts.size)
-    (Keeps-trans _ _ _ c.fill_head.ensures.kept c.fill_to.ensures.kept) now refl c.in_ok-fill_to.ensures.whole c.in_ok-body.ensures.given c.in_ok-body.ensures.after c.with_body.ensures
+    (Keeps-trans _ _ _ c.fill_head.ensures.kept c.fill_to.ensures.kept) now refl c.in_ok-fill_to.ensures.whole
+    (c.in_ok-body.ensures.given ∙ ap (λ (l : List ℕ). slice_range l parts.len (parts.len + parts.size)) same)
+    (c.in_ok-body.ensures.after ∙ ap (drop (parts.len + parts.size)) same) c.with_body.ensures

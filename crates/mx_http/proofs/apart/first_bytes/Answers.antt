@@ -1,6 +1,6 @@
 use Rattle.std.proofs.Common.{◌≡◌, ◌≤◌, length, take, sym, arith}
 use Rattle.std.proofs.lemmas.List.{take_all, length-take-le}
-use Rattle.mx_http.proofs.head.first_bytes.Goals as goal
+use Rattle.mx_http.proofs.apart.first_bytes.Goals as goal
 
 pub slice_bounds-result-end : goal.slice_bounds-result-end
 slice_bounds-result-end c = sym (length-take-le 16384 c.args.bytes.now (omega arith))

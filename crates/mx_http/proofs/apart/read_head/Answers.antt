@@ -1,5 +1,5 @@
 use Rattle.mx_http.proofs.Heads.{apart_finds, open_finds, long_finds, bad_finds}
-use Rattle.mx_http.proofs.head.read_head.Goals as goal
+use Rattle.mx_http.proofs.apart.read_head.Goals as goal
 
 pub returns-in-Whole : goal.returns-in-Whole
 returns-in-Whole c = apart_finds c.args.bytes.now c.first_bytes-front.result.now c.take_apart.result c.first_bytes-front.ensures.front c.take_apart.ensures
