@@ -22,10 +22,9 @@ enum Came {
 }
 
 /// One call with room for four bytes.
-fn take<P: Port>(port: &mut P) -> (TookNow, [u8; 4]) {
+fn take<P: Port>(port: &mut P) -> TookNow {
     let mut into = [0u8; 4];
-    let took = port.take_now(&mut into);
-    (took, into)
+    port.take_now(&mut into)
 }
 
 fn put<P: Port>(port: &mut P, bytes: &[u8]) -> PutNow
@@ -57,8 +56,8 @@ where
 }
 
 fn echo<P: Port>(port: &mut P) -> Came {
-    let (took, into) = take(port);
-    if let TookNow::Got(count) = took
+    let mut into = [0u8; 4];
+    if let TookNow::Got(count) = port.take_now(&mut into)
         && let PutNow::Put(_) = port.put_now(&into[..count])
     {
         return Came::Sent(into);
@@ -76,7 +75,7 @@ fn port(rt: &impl Abort, alloc: Global, bytes: &[u8], busy: &[u64], failing: &[u
 /// Asserts what the next calls of a port give.
 fn expect_takes(rt: &impl Abort, port: &mut MemPort, wanted: &[TookNow]) {
     for want in wanted {
-        assert_eq!(rt; take(port).0, *want);
+        assert_eq!(rt; take(port), *want);
     }
 }
 
