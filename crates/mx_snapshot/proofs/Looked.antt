@@ -1,5 +1,5 @@
 -- Events that the index finds.
-use Rattle.std.proofs.Common.{◌≡◌, ℕ, ◌≤◌, ◌*◌, ◌+◌, Bool, true, false, cond, ◌&&◌, length, List, [], ◌∷◌, ◌++◌, Option, Some, is_some, map, fold, option_map, nat_le, nat_lt, Ordering, Less, Equal, Greater, refl, sym, subst, ap, ap₂, ◌∙◌}
+use Rattle.std.proofs.Common.{◌≡◌, ℕ, ◌≤◌, Bool, true, false, cond, ◌&&◌, length, List, [], ◌∷◌, ◌++◌, Option, Some, is_some, map, filter, fold, option_map, nat_le, nat_lt, Ordering, Less, Equal, Greater, refl, sym, subst, ap, ap₂, ◌∙◌}
 use Rattle.std.specs.List.{AllByRecursion}
 use Rattle.std.specs.BTreeMap.{insert_entry}
 use Rattle.std.specs.Ordering.{match_ordering}
@@ -11,10 +11,11 @@ use Rattle.mx_event.specs.Kinds.{has_key}
 use Rattle.mx_event.specs.Lawful.{of_room, same_room}
 use Rattle.mx_event.specs.Shown.{position_of}
 use Rattle.mx_event.specs.declared.event.Event.{Event}
-use Rattle.mx_snapshot.specs.Events.{states, is_state, versions, is_version, is_own, with_own, rooms_of, place_of}
+use Rattle.mx_snapshot.specs.Events.{later, states, is_state, versions, is_version, is_own, with_own, rooms_of, place_of}
+use Rattle.mx_snapshot.specs.Halving.{search_cost}
 use Rattle.mx_snapshot.specs.Lists.{room_cmp}
 use Rattle.mx_snapshot.specs.Looks.{at_position, own_looked, with_room}
-use Rattle.mx_snapshot.proofs.Found.{Found, all_found, in_position, last_among, last_same, length_positions, test_last}
+use Rattle.mx_snapshot.proofs.Found.{Found, all_found, filter_positions, in_position, last_among, last_same, length_positions, test_last}
 
 and_swap : (a b c : Bool) → (a && (b && c)) ≡ (b && (a && c))
 and_swap true b c = refl
@@ -102,6 +103,8 @@ pub no_rooms : (rs : List (RoomId × Event)) → [] ≡ map place_of rs → [] �
 no_rooms [] is = refl
 no_rooms (r ∷ rs) is = absurd cc
 
--- what is bounded by the number of positions is bounded by that of the events
-pub few_steps : (n : ℕ) (ps : List ℕ) (xs ys : List Event) → ps ≡ map position_of xs → xs ≡ ys → n ≤ 2 * length ps + 1 → n ≤ 2 * length ys + 1
-few_steps n ps xs ys is same few = subst (λ k. n ≤ 2 * k + 1) (ap length is ∙ length_positions position_of xs ∙ ap length same) few
+-- what is bounded by the number of later positions is bounded by that of the later events
+pub few_steps : (n last : ℕ) (ps : List ℕ) (xs ys : List Event) → ps ≡ map position_of xs → xs ≡ ys → n ≤ search_cost (length (filter (λ p. nat_lt last p) ps)) → n ≤ search_cost (length (later last ys))
+few_steps n last ps xs ys is same few =
+    subst (λ k. n ≤ search_cost k)
+    (ap (λ l. length (filter (λ p. nat_lt last p) l)) is ∙ ap length (filter_positions position_of (λ p. nat_lt last p) xs) ∙ length_positions position_of (later last xs) ∙ ap (λ l. length (later last l)) same) few

@@ -6,7 +6,7 @@ use Rattle.mx_ids.specs.declared.event_id.EventId.{EventId}
 use Rattle.mx_ids.specs.declared.room_id.RoomId.{RoomId}
 use Rattle.mx_event.specs.Kinds.{has_key, is_of, member_type}
 use Rattle.mx_event.specs.Lawful.{same_room}
-use Rattle.mx_event.specs.Shown.{named_id, names}
+use Rattle.mx_event.specs.Shown.{named_id, names, position_of}
 use Rattle.mx_event.specs.declared.event.Event.{Event}
 use Rattle.mx_snapshot.specs.Lists.{room_cmp}
 
@@ -16,6 +16,10 @@ is_version room kind key e = same_room e.room room && has_key kind key e
 
 abbrev pub versions : RoomId → List ℕ → List ℕ → List Event → List Event
 versions room kind key es = filter (is_version room kind key) es
+
+-- those that lie later than a position
+abbrev pub later : ℕ → List Event → List Event
+later last es = filter (λ e. nat_lt last (position_of e)) es
 
 -- a member event of a room: a state event of the type of member events
 abbrev pub is_member : RoomId → Event → Bool

@@ -2,6 +2,7 @@ pub mod Lists
 pub mod LastVersions
 pub mod Standing
 pub mod Looks
+pub mod Halving
 pub mod Events
 pub mod Indexed
 pub mod Receipts

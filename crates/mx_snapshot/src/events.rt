@@ -9,7 +9,8 @@ ghost use Rattle.mx_event.specs.Kinds.{has_key, is_of};
 ghost use Rattle.mx_event.specs.Lawful.{of_room, same_room};
 ghost use Rattle.mx_event.specs.Shown.{position_of};
 ghost use Rattle.mx_snapshot.specs.Indexed.{IsIndexed};
-ghost use Rattle.mx_snapshot.specs.Events.{first_redaction, is_member, members, rooms_of, states, versions};
+ghost use Rattle.mx_snapshot.specs.Events.{first_redaction, is_member, later, members, rooms_of, states, versions};
+ghost use Rattle.mx_snapshot.specs.Halving.{search_cost};
 ghost use Rattle.mx_snapshot.specs.Standing.{standing_in};
 ghost use Rattle.mx_snapshot.specs.Looks.{all_now, at_position, last_position, own_looked, own_now, with_room};
 
@@ -259,7 +260,8 @@ impl Events {
         self.last_of_counted(room, kind, key, last, &mut steps)
     }
 
-    /// The same, with the comparisons of positions counted: no more than there are binary digits in the number of versions.
+    /// The same, with the comparisons of positions counted: one, and at most two for each binary digit of the number of versions
+    /// that lie later.
     pub fn last_of_counted(
         &self,
         room: &RoomId,
@@ -270,7 +272,7 @@ impl Events {
     ) -> Option<&Event>
         ensures found { option_copied result ≡ last_of (has_key kind.now key.now) (between position_of 0 last (of_room room.now self.now)) }
         ensures more { steps.old ≤ steps.new }
-        ensures cost { 2 ^ (steps.new - steps.old) ≤ 2 * length (versions room.now kind.now key.now self.now) + 1 }
+        ensures cost { 2 ^ (steps.new - steps.old) ≤ search_cost (length (later last (versions room.now kind.now key.now self.now))) }
     {
         let positions = version_positions(&self.index.versions, room, kind, key);
         let position = last_to(positions, last, steps)?;

@@ -56,7 +56,7 @@ fn make_key(alloc: Global, keys: &mut Keys, key: &str) -> Result<(), Memory>
     ensures there { OnOk result (IsSome (get_by_text keys.new key.now)) }
 {
     if !keys.contains_key(key) {
-        keys.insert(String::from_str(alloc, key)?, Vec::new(alloc))?;
+        keys.insert(String::from_str(alloc, key)?, Vec::with_capacity(alloc, 1)?)?;
     }
     Ok(())
 }

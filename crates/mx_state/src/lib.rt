@@ -5,8 +5,8 @@
 //! those of the state at a position that lie after another one, at a cost in the events between the two, not in the
 //! state.
 //!
-//! `state_event` counts its comparisons of positions: at most one for each binary digit of the number of versions of
-//! the key.
+//! `state_event` counts its comparisons of positions: one, and at most two for each binary digit of the number of versions
+//! of the key that lie later.
 //!
 //! Begin with `state.rt`, which is all the code; `specs/Standing.antt` has the definitions.
 #![tactic(auto)]

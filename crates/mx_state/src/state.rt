@@ -9,7 +9,8 @@ ghost use Rattle.mx_event.specs.State.{standing};
 ghost use Rattle.mx_event.specs.declared.event.Event.{Event};
 ghost use Rattle.mx_folding.specs.Parts.{state_list};
 ghost use Rattle.mx_view.specs.Rooms.{Sieve, room_of};
-ghost use Rattle.mx_snapshot.specs.Events.{versions};
+ghost use Rattle.mx_snapshot.specs.Events.{later, versions};
+ghost use Rattle.mx_snapshot.specs.Halving.{search_cost};
 ghost use Rattle.mx_snapshot.specs.Looks.{all_now};
 ghost use Rattle.mx_state.specs.Standing.{is_at, stands, standing_in};
 
@@ -19,8 +20,8 @@ use mx_snapshot::{Events, Steps};
 use std::alloc::Global;
 
 /// The state event that stands under a type and a state key at a position, which may be any: the last one up to it. Takes
-/// no memory, and the time of a search among the versions of the key. Counts the comparisons of positions: at most one for
-/// each binary digit of the number of versions.
+/// no memory, and the time of a search among the versions of the key. Counts the comparisons of positions: one, and at most two
+/// for each binary digit of the number of versions that lie later.
 pub fn state_event<'a>(
     events: &'a Events,
     room: &RoomId,
@@ -30,7 +31,7 @@ pub fn state_event<'a>(
     steps: &mut Steps,
 ) -> Option<&'a Event>
     ensures more { steps.old ≤ steps.new }
-    ensures cost { 2 ^ (steps.new - steps.old) ≤ 2 * length (versions room.now kind.now key.now events.now) + 1 }
+    ensures cost { 2 ^ (steps.new - steps.old) ≤ search_cost (length (later position (versions room.now kind.now key.now events.now))) }
     ensures found { option_copied result ≡ standing kind.now key.now (between position_of 0 position (of_room room.now events.now)) }
 {
     events.last_of_counted(room, kind, key, position, steps)

@@ -64,11 +64,11 @@ fn expect_window(rt: &impl Abort, alloc: Global, made: &Thousand, low: u64, high
     expect_found(rt, alloc, made, Look::Versions, low, high);
 }
 
-/// The position of the state event that stands, which is found by at most seven comparisons among some ninety versions.
-fn standing(rt: &impl Abort, events: &Events, room: &RoomId, high: u64) -> u64 {
+/// The position of the state event that stands, which is found by at most so many comparisons among some ninety versions.
+fn standing(rt: &impl Abort, events: &Events, room: &RoomId, high: u64, most: u64) -> u64 {
     let mut steps = Steps::new();
     let found = state_event(events, room, KIND, "", high, &mut steps);
-    assert!(rt; steps.count() <= 7);
+    assert!(rt; steps.count() <= most);
     found.map_or(0, |event| event.id.at)
 }
 
@@ -77,7 +77,14 @@ fn ending(rt: &impl Abort, alloc: Global, events: &Events, room: &RoomId, high: 
     digest(&events.ending(alloc, room, high, 1).expect(rt, "memory"))
 }
 
-fn expect_last(rt: &impl Abort, alloc: Global, made: &Thousand, room: &RoomId, high: u64) {
+fn expect_last(
+    rt: &impl Abort,
+    alloc: Global,
+    made: &Thousand,
+    room: &RoomId,
+    high: u64,
+    most: u64,
+) {
     let events = &made.known.events;
     let version = events
         .last_of(room, KIND, "", high)
@@ -86,14 +93,14 @@ fn expect_last(rt: &impl Abort, alloc: Global, made: &Thousand, room: &RoomId, h
         version,
         last_scanned(&made.all, Look::Versions, room, high)
     );
-    assert_eq!(rt; standing(rt, events, room, high), version);
+    assert_eq!(rt; standing(rt, events, room, high, most), version);
     let last = ending(rt, alloc, events, room, high);
     assert_eq!(rt; last, last_scanned(&made.all, Look::All, room, high));
 }
 
-fn expect_all_last(rt: &impl Abort, alloc: Global, made: &Thousand, high: u64) {
+fn expect_all_last(rt: &impl Abort, alloc: Global, made: &Thousand, high: u64, most: u64) {
     for number in 0..3u64 {
-        expect_last(rt, alloc, made, &room_at(number), high);
+        expect_last(rt, alloc, made, &room_at(number), high, most);
     }
 }
 
@@ -102,8 +109,9 @@ fn windows_are_as_scanned(rt: HostRuntime) {
     let made = make_thousand(&rt, rt.alloc());
     expect_window(&rt, rt.alloc(), &made, 0, 1000);
     expect_window(&rt, rt.alloc(), &made, 331, 667);
-    expect_all_last(&rt, rt.alloc(), &made, 1000);
-    expect_all_last(&rt, rt.alloc(), &made, 500);
+    expect_all_last(&rt, rt.alloc(), &made, 1000, 1);
+    // some forty-five versions lie later
+    expect_all_last(&rt, rt.alloc(), &made, 500, 13);
     mem::forget(made);
 }
 

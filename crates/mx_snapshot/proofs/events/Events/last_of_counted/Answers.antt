@@ -28,10 +28,10 @@ returns-clause-found c =
 
 pub returns-in_err-position-clause-cost : goal.returns-in_err-position-clause-cost
 returns-in_err-position-clause-cost c =
-    few_steps _ c.version_positions-positions.result.now (versions c.args.room.now c.args.kind.now c.args.key.now c.self.inside.events.items) _
+    few_steps _ c.args.last c.version_positions-positions.result.now (versions c.args.room.now c.args.kind.now c.args.key.now c.self.inside.events.items) _
     (c.version_positions-positions.ensures ∙ c.self.invariant.1.versions c.args.room.now c.args.kind.now c.args.key.now) (ap (versions c.args.room.now c.args.kind.now c.args.key.now) c.self.view_is) c.in_err-position.ensures.cost
 
 pub returns-clause-cost : goal.returns-clause-cost
 returns-clause-cost c =
-    few_steps _ c.version_positions-positions.result.now (versions c.args.room.now c.args.kind.now c.args.key.now c.self.inside.events.items) _
+    few_steps _ c.args.last c.version_positions-positions.result.now (versions c.args.room.now c.args.kind.now c.args.key.now c.self.inside.events.items) _
     (c.version_positions-positions.ensures ∙ c.self.invariant.1.versions c.args.room.now c.args.kind.now c.args.key.now) (ap (versions c.args.room.now c.args.kind.now c.args.key.now) c.self.view_is) c.in_ok-position.ensures.cost
