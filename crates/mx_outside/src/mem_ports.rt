@@ -1,5 +1,5 @@
 //! Ports in memory.
-ghost use Rattle.std.specs.Prelude.{◌≡◌, Some};
+ghost use Rattle.std.specs.Prelude.{◌≡◌, Some, None, IfSome};
 ghost use Rattle.mx_outside.specs.Calls.{fresh};
 ghost use Rattle.mx_outside.specs.Ports.{Counts, GivesNow, has_failed_to_accept, has_failed_to_listen, has_waited_to_accept};
 
@@ -10,12 +10,17 @@ use crate::ports::{AcceptedNow, Ports};
 use std::marker::Model;
 use std::vec;
 
-/// Ports in memory, given one after the other, with lists of accepts that aren't ready and of calls that fail.
+/// Ports in memory, given one after the other, with lists of accepts that aren't ready and of calls that fail. After each rest it tells
+/// of all that it watches.
 #[derive(Drop)]
 pub struct MemPorts<P> {
     ports: vec::IntoIter<P>,
     busy: Calls,
     calls: Calls,
+    /// The numbers below this one are watched.
+    watched: usize,
+    /// Those below this one weren't told of yet.
+    untold: usize,
 }
 
 impl<P> Model for MemPorts<P> {
@@ -36,6 +41,8 @@ impl<P> MemPorts<P> {
             ports: ports.into_iter(),
             busy: Calls::new(busy),
             calls: Calls::new(failing),
+            watched: 0,
+            untold: 0,
         }
     }
 }
@@ -81,11 +88,26 @@ impl<P: Port> Ports for MemPorts<P> {
         }
     }
 
-    fn watch(&mut self, _port: &mut P, _number: usize) {}
+    /// There is no other.
+    fn share(&self) -> Option<MemPorts<P>>
+        ensures { IfSome result (λ other. Some other.left ≡ None) }
+    {
+        None
+    }
 
-    fn rest(&mut self, _ms: u64) {}
+    fn watch(&mut self, _port: &mut P, number: usize) {
+        self.watched = self.watched.max(number.saturating_add(1));
+    }
+
+    fn rest(&mut self, _ms: u64) {
+        self.untold = self.watched;
+    }
 
     fn ready(&mut self) -> Option<usize> {
-        None
+        if self.untold == 0 {
+            return None;
+        }
+        self.untold -= 1;
+        Some(self.untold)
     }
 }

@@ -1,5 +1,5 @@
 //! Connections that come from outside, in calls that never wait.
-ghost use Rattle.std.specs.Prelude.{◌≡◌, ℕ, List};
+ghost use Rattle.std.specs.Prelude.{◌≡◌, ℕ, List, IfSome, None};
 ghost use Rattle.std.specs.declared.option.Option.{Option};
 ghost use Rattle.mx_outside.specs.Ports.{Counts, GivesNow, has_failed_to_accept, has_failed_to_listen, has_waited_to_accept};
 
@@ -46,6 +46,12 @@ pub trait Ports {
         ensures ports { GivesNow (left self.old) (left self.new) result }
         ensures faults { Counts (has_failed_to_accept result) (faults self.old) (faults self.new) }
         ensures waits { Counts (has_waited_to_accept result) (waits self.old) (waits self.new) };
+
+    /// Another value that takes connections of the same listener, for another thread; none where there is none. It tells no ports.
+    fn share(&self) -> Option<Self>
+    where
+        Self: Sized,
+        ensures { IfSome result (λ other. left other ≡ None) };
 
     /// Lets a port be told of by `ready` under this number.
     fn watch(&mut self, port: &mut Self::Port, number: usize)

@@ -10,6 +10,7 @@ use std::alloc::Global;
 use std::io::{ErrorKind, Read, Write};
 use std::marker::Model;
 use std::net::{Net, Shutdown, SocketAddr, ToSocketAddrs};
+use std::os::fd::AsFd;
 use std::time::Duration;
 use std::{io, net};
 
@@ -110,7 +111,11 @@ impl Bound {
         net: &R,
         address: &str,
     ) -> io::Result<Bound> {
-        let mut listener = bind(net, address)?;
+        Bound::of(alloc, net, bind(net, address)?)
+    }
+
+    /// What waits for a listener's sockets.
+    fn of<R: Net>(alloc: Global, net: &R, mut listener: TcpListener) -> io::Result<Bound> {
         let poll = Poll::new(net)?;
         poll.registry()
             .register(&mut listener, Token(LISTENER), Interest::READABLE)?;
@@ -120,6 +125,12 @@ impl Bound {
             events: Events::with_capacity(alloc, MOST_READY)?,
             ready: Vec::with_capacity(alloc, MOST_READY)?,
         })
+    }
+
+    /// The same for another thread: the listener is the same, the set of sockets another.
+    fn share<R: Net>(&self, alloc: Global, net: &R) -> io::Result<Bound> {
+        let same = self.listener.as_fd().try_clone_to_owned()?;
+        Bound::of(alloc, net, TcpListener::from(same))
     }
 
     fn rest(&mut self, ms: u64) {
@@ -195,7 +206,7 @@ impl<R: Net<Listener = net::TcpListener, Stream = net::TcpStream>> TcpPorts<R> {
     }
 }
 
-impl<R: Net<Listener = net::TcpListener, Stream = net::TcpStream>> Ports for TcpPorts<R> {
+impl<R: Net<Listener = net::TcpListener, Stream = net::TcpStream> + Copy> Ports for TcpPorts<R> {
     type Port = TcpPort;
 
     ghost left = { λ _. None };
@@ -231,6 +242,18 @@ impl<R: Net<Listener = net::TcpListener, Stream = net::TcpStream>> Ports for Tcp
                 AcceptedNow::NotYet
             }
         }
+    }
+
+    /// None before the first `Done` of `listen`, or where the system gives no other handle.
+    fn share(&self) -> Option<TcpPorts<R>> {
+        let bound = self.bound.as_ref()?.share(self.alloc, &self.net).ok()?;
+        Some(TcpPorts {
+            net: self.net,
+            alloc: self.alloc,
+            bound: Some(bound),
+            faults: 0,
+            waits: 0,
+        })
     }
 
     /// A socket that the system can't watch is told of by no rest.
