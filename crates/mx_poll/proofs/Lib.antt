@@ -3,7 +3,7 @@ mod Judging
 mod Later
 mod Readings
 mod Standing
-mod Staying
+pub mod Staying
 pub mod Waited
 pub mod Watching
 pub mod OfEngine

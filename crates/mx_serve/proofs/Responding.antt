@@ -99,7 +99,7 @@ module _ (site : Site) (stops : Stops) where
   wanting_tells (Marks aims) m h = h
   wanting_tells (Notes aims) m h = h
 
-  wanting : (act : Act) (m : Mark) (old new : Histories) → KeepsAct stops act m old new → KeepsAct stops act (record m { memory = true }) old new
+  pub wanting : (act : Act) (m : Mark) (old new : Histories) → KeepsAct stops act m old new → KeepsAct stops act (record m { memory = true }) old new
   wanting act m old new h = (wanting_writes act m old new h.0, wanting_tells act m h.1)
 
   -- ---- where the engine isn't asked

@@ -34,4 +34,11 @@ impl<G: Outside> Server<G> {
     {
         &self.engine
     }
+
+    /// How many requests each connection is served.
+    pub fn limit(&self) -> u64
+        ensures { result ≡ self.now.limit }
+    {
+        self.limit
+    }
 }
