@@ -97,14 +97,24 @@ impl AuthState {
             .settle(target(event), event.sender.as_str(), change, at);
         self.taken = Taken::placed(&self.taken, event, &first, &at);
         self.ready = Taken::rest(&self.ready);
+        self.release();
     }
 
     /// Drops the events that are ready. Takes no memory.
     pub fn drop_ready(&mut self)
         ensures { self.new ≡ record self.old { ready = [] } }
     {
-        self.waiting.clear();
+        self.waiting = VecDeque::new(self.alloc);
         self.ready = Taken::new();
+    }
+
+    /// Gives back the memory of what the events that were ready set, once none is left: a room keeps none of it.
+    fn release(&mut self)
+        ensures { self.new ≡ self.old }
+    {
+        if self.waiting.is_empty() {
+            self.waiting = VecDeque::new(self.alloc);
+        }
     }
 
     /// The membership of a user (Client-Server API, m.room.member), or `None` where no member event of the user stands, or
