@@ -1,11 +1,11 @@
 -- Lines end where they end, and a file may be cut off anywhere.
-use Rattle.std.proofs.Common.{◌≡◌, ℕ, zero, suc, ◌+◌, ◌-◌, ◌*◌, ◌/◌, ◌%◌, ◌<◌, ◌≤◌, ◌==◌, ◌||◌, Bool, true, false, List, [], ◌∷◌, ◌++◌, length, take, drop, flat_map, refl, sym, ap, ap₂, ◌∙◌, subst, inl, inr, arith, nat_eq, length-append, append_assoc}
-use Rattle.std.proofs.lemmas.Bool.{cases_Bool, or_parts, or_from, or_right, ne_eqb, both_ways, cases_lt}
+use Rattle.std.proofs.Common.{◌≡◌, ℕ, zero, suc, ◌+◌, ◌-◌, ◌/◌, ◌<◌, ◌==◌, true, false, List, [], ◌∷◌, ◌++◌, length, take, refl, sym, ap, ap₂, ◌∙◌, subst, inl, inr, arith, length-append, append_assoc}
+use Rattle.std.proofs.lemmas.Bool.{or_parts, or_from, or_right, ne_eqb, both_ways, cases_lt}
 use Rattle.std.proofs.lemmas.List.{take-append-le}
 use Rattle.std.proofs.Math.Seq.{take-append-add, take-nil}
 use Rattle.std.proofs.lemmas.Grind.{flat_map-append}
 use Rattle.std.specs.List.{AllByRecursion}
-use Rattle.mx_lines.specs.Lines.{IsOpen, IsRead, checked, ends, file_of, letter, letters, line, sum_of}
+use Rattle.mx_lines.specs.Lines.{IsOpen, checked, ends, file_of, letter, letters, line, sum_of}
 use Rattle.mx_lines.specs.Laws.{IsTorn, ReadsInOneWay, TornAnywhere}
 
 pub ends-append : (xs ys : List ℕ) → IsOpen xs → IsOpen ys → IsOpen (xs ++ ys)
