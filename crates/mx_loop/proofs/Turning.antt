@@ -61,6 +61,10 @@ module _ (site : Site) (stops : Stops) {P : Type 0} (old new : EnginePass) (grow
   place_held_on None h = tt
   place_held_on (Some s) h = held_on s h
 
+  -- none has moved
+  pub held_all : (all : List (Option (Session P))) → AreHeld old all → AreHeld new all
+  held_all all h = λ k d within. place_held_on (slice_index_or all k d) (h k d within)
+
   -- one has moved
   pub held_with : (all : List (Option (Session P))) (which : ℕ) (s : Session P) → AreHeld old all → IsHeld new s → AreHeld new (slice_set all which (Some s))
   held_with all which s h is = λ k d within. elim (eqb_tells k which) [
@@ -88,6 +92,9 @@ module _ (site : Site) (stops : Stops) {P : Type 0} (old new : EnginePass) (grow
     other_stands all i None is held h = tt
     other_stands all i (Some s) is held h =
         place_on s (subst (λ x. IfSome x (λ t. IsHeld old t)) (get_or_from_slice_get all i s s is) (held i s (slice_get_within all i s is))) h
+
+    pub stands_all : (all : List (Option (Session P))) (i : ℕ) → AreHeld old all → IfSome (slice_get all i) (PlaceOn old) → IfSome (slice_get all i) (PlaceOn new)
+    stands_all all i held h = other_stands all i (slice_get all i) refl held h
 
     pub stands_with : (all : List (Option (Session P))) (which : ℕ) (s t : Session P) → which < length all → slice_get all which ≡ Some (Some s) → AreHeld old all → (StandsOn old s → StandsOn new t)
         → (i : ℕ) → IfSome (slice_get all i) (PlaceOn old) → IfSome (slice_get (slice_set all which (Some t)) i) (PlaceOn new)

@@ -1,5 +1,6 @@
 -- An answer through a pass that other sessions use too: of what the pass has seen a session has the first stores, as many as at its last mark.
 use Rattle.std.specs.Prelude.{◌≡◌, ℕ, ◌+◌, List, Some, false, ⊤}
+use Rattle.mx_engine.specs.Shown.{HasLooked}
 use Rattle.mx_http.specs.Answers.{body_text}
 use Rattle.mx_http.specs.declared.call.Call.{Call}
 use Rattle.mx_fold.specs.Lists.{Grows, Histories, lists_of}
@@ -8,6 +9,7 @@ use Rattle.mx_ask.specs.declared.ask.Request.{Request}
 use Rattle.mx_poll.specs.Aims.Asked.{Site}
 use Rattle.mx_poll.specs.OfEngine.Answers.{Stops, counts, counts_of}
 use Rattle.mx_poll.specs.OfEngine.Counts.{Counts}
+use Rattle.mx_poll.specs.OfEngine.EnginePass.{EnginePass}
 use Rattle.mx_poll.specs.OfEngine.Exchanges.{AtMost, first_of}
 use Rattle.mx_poll.specs.OfEngine.Mark.{Mark}
 use Rattle.mx_poll.specs.Polls.{IsParked, IsPolled}
@@ -54,3 +56,8 @@ Goes site stops asks first now seen old new (went.Waits parked) = ⊤
 abbrev pub WentBy : ℕ → Histories → Histories → SyncPoll → Went → Type 0
 WentBy now old new p (went.Done t) = Grows old new × AtMost (counts t.mark) (counts_of new)
 WentBy now old new p (went.Waits parked) = Grows old new × IsParked p now (lists_of new) parked
+
+-- where it rests on, the pass has looked at each stream
+abbrev pub LooksToRest : EnginePass → EnginePass → Went → Type 0
+LooksToRest old new (went.Done t) = ⊤
+LooksToRest old new (went.Waits parked) = HasLooked old new

@@ -5,6 +5,7 @@ use Rattle.std.specs.Global.{Vec}
 use Rattle.std.specs.Str.{bytes_eq}
 use Rattle.std.specs.Vec.{vec_len, vec_capacity}
 use Rattle.std.specs.Io.KnownBytes.{Appends, append_known}
+use Rattle.mx_engine.specs.Shown.{HasLooked}
 use Rattle.mx_outside.specs.Ports.{Counts as Rises}
 use Rattle.mx_http.specs.Answers.{response_bytes}
 use Rattle.mx_http.specs.Calls.{IsCall}
@@ -174,9 +175,9 @@ abbrev pub ReadTells : Read → Counted → Counted → Type 0
 ReadTells (read.Call c) old new = new ≡ old
 ReadTells (read.Stays state stepped) old new = Tells state stepped old new
 
--- a sync that has nothing to tell yet is parked at the clock's reading, at the fronts that the pass has then seen
+-- a sync that has nothing to tell yet is parked at the clock's reading, at the fronts that the pass has then seen, which has looked at each stream
 abbrev pub IsWaited : ℕ → EnginePass → EnginePass → State → Stepped → Type 0
-IsWaited now old new (state.Rests r) (stepped.Waiting parked) = IsParked r.poll now (lists_of (stores_of new)) parked
+IsWaited now old new (state.Rests r) (stepped.Waiting parked) = HasLooked old new × IsParked r.poll now (lists_of (stores_of new)) parked
 IsWaited now old new other (stepped.Waiting parked) = ⊥
 IsWaited now old new after told = ⊤
 

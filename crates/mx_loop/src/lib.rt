@@ -17,6 +17,7 @@ mod outbox;
 mod places;
 mod printed;
 mod reading;
+mod resting;
 mod session;
 mod sessions;
 mod turns;

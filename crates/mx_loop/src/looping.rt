@@ -117,7 +117,7 @@ where
             &mut turns,
             now.saturating_add(limits.idle),
         )?;
-        places.take_stored()?;
+        places.take_stored(rt, alloc, server)?;
         if coming == Coming::Never && places.are_free() {
             return Ok(Looped::Closed);
         }

@@ -1,18 +1,19 @@
 //! A request is answered, or is a sync that rests.
 ghost use Rattle.std.specs.Prelude.{◌≡◌, ℕ, ◌≤◌};
-ghost use Rattle.mx_fold.specs.Lists.{lists_of};
+ghost use Rattle.mx_fold.specs.Lists.{Grows, lists_of};
 ghost use Rattle.mx_outside.specs.Readings.{most_reading};
 ghost use Rattle.mx_poll.specs.OfEngine.Answers.{counts_of, reading};
 ghost use Rattle.mx_poll.specs.OfEngine.Exchanges.{AtMost};
 ghost use Rattle.mx_poll.specs.OfEngine.Shown.{Ties, site_of, stops_of, stores_of};
 ghost use Rattle.mx_poll.specs.Polls.{IsPolled};
 ghost use Rattle.mx_serve.specs.declared.call_asked.CallAsked.{CallAsked};
-ghost use Rattle.mx_loop.specs.Seen.{Begins, Goes, IsRestOf, WentBy};
+ghost use Rattle.mx_loop.specs.Seen.{Begins, Goes, IsRestOf, LooksToRest, WentBy};
 
 use mx_ask::Request;
 use mx_engine::Counts;
 use mx_http::{Answer, Call};
-use mx_poll::{EnginePass, Mark, Outside, Parked, SyncPoll, begin, poll};
+use mx_ids::Memory;
+use mx_poll::{EnginePass, Mark, Outside, Parked, SyncPoll, begin, look_after, poll};
 use mx_serve::{Opened, Server, Told, rendered_for};
 use mx_wait::{Flag, Tickets};
 use std::alloc::Global;
@@ -100,6 +101,7 @@ pub(crate) fn poll_on<G: Outside, R: Wait>(
     requires polled { IsPolled waiting.old (lists_of (stores_of pass.old)) }
     ensures ties { Ties server.now.engine pass.new }
     ensures same { waiting.new ≡ record waiting.old { empty_at = waiting.new.empty_at } }
+    ensures looks { LooksToRest pass.old pass.new result }
     ensures went { WentBy now (stores_of pass.old) (stores_of pass.new) waiting.new result }
     ensures goes { (asks : CallAsked) (first : ℕ) → IsRestOf asks first waiting.old device → Goes (site_of server.now.engine) (stops_of server.now.engine) asks first now seen (stores_of pass.old) (stores_of pass.new) result }
 {
@@ -110,4 +112,23 @@ pub(crate) fn poll_on<G: Outside, R: Wait>(
         }
         mx_poll::Polled::Pending(parked) => Went::Waits(parked),
     }
+}
+
+/// Sees what was stored, once the waker is parked at each stream. `Memory` where there is no room for it; it may not be parked then.
+pub(crate) fn look_on<G: Outside, R: Wait>(
+    rt: &R,
+    alloc: Global,
+    server: &Server<G>,
+    pass: &mut EnginePass,
+    watch: &mut Watch,
+) -> Result<(), Memory>
+    requires ties { Ties server.now.engine pass.old }
+    ensures ties { Ties server.now.engine pass.new }
+    ensures grows { Grows (stores_of pass.old) (stores_of pass.new) }
+{
+    let Watch { flag, kept } = watch;
+    let tickets = server.engine().waiters().register(rt, flag, *kept)?;
+    *kept = Some(tickets);
+    look_after(rt, alloc, server.engine(), pass, tickets)?;
+    Ok(())
 }

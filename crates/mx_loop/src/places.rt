@@ -4,6 +4,7 @@ ghost use Rattle.mx_fold.specs.Lists.{Grows};
 ghost use Rattle.mx_poll.specs.OfEngine.Shown.{Ties, stores_of};
 
 use crate::line::Stepped;
+use crate::resting::Resting;
 use crate::sessions::Sessions;
 use futures::util::wheel::Wheel;
 use mx_ids::Memory;
@@ -20,24 +21,16 @@ const MOST_TAKEN: u32 = 65_536;
 /// A session is moved so many times at most before the next one's turn.
 const MOST_MOVES: u32 = 16;
 
-/// What is known of a place.
-#[derive(Clone, Copy)]
-struct Place {
-    /// It is among those that are to be stepped.
-    queued: bool,
-    /// It is among those that are to be stepped after the next store.
-    waiting: bool,
-}
-
-/// The sessions of a loop, and which of their places are to be stepped: those whose port may be ready, whose deadline has come, or that a
-/// store may concern.
+/// The sessions of a loop, and which of their places are to be stepped: those whose port may be ready, whose deadline has come, or whose syncs
+/// a store concerns.
 #[derive(Drop)]
 pub(crate) struct Places<P> {
     pub(crate) sessions: Sessions<P>,
-    places: Vec<Place>,
+    /// Of each place whether it is in the queue.
+    queued: Vec<bool>,
     free: Vec<usize>,
     queue: Vec<usize>,
-    waiting: Vec<usize>,
+    resting: Resting,
     deadlines: Wheel,
     /// How often those who rest were told of a store when they were last stepped for it.
     raised: u64,
@@ -48,20 +41,28 @@ impl<P: Port + Drop> Places<P> {
     pub(crate) fn new(alloc: Global, pass: EnginePass) -> Result<Places<P>, Memory>
         ensures { IfOk result (λ p. p.sessions.pass ≡ pass) }
     {
-        let sessions = Sessions::new(alloc, pass)?;
+        let resting = Resting::new(alloc, &pass);
+        let sessions = match Sessions::new(alloc, pass) {
+            Ok(sessions) => sessions,
+            Err(refused) => {
+                drop(resting);
+                return Err(refused);
+            }
+        };
         let deadlines = match Wheel::new(alloc) {
             Ok(deadlines) => deadlines,
             Err(refused) => {
+                drop(resting);
                 drop(sessions);
                 return Err(refused.into());
             }
         };
         Ok(Places {
             sessions,
-            places: Vec::new(alloc),
+            queued: Vec::new(alloc),
             free: Vec::new(alloc),
             queue: Vec::new(alloc),
-            waiting: Vec::new(alloc),
+            resting,
             deadlines,
             raised: 0,
         })
@@ -83,7 +84,7 @@ impl<P: Port + Drop> Places<P> {
         if !self.queue.is_empty() {
             return 0;
         }
-        let most = if self.waiting.is_empty() {
+        let most = if self.resting.is_empty() {
             longest
         } else {
             look
@@ -127,39 +128,29 @@ impl<P: Port + Drop> Places<P> {
         }
         let which = self.sessions.count();
         self.deadlines.reserve_key(which)?;
-        self.places.push(Place {
-            queued: false,
-            waiting: false,
-        })?;
+        self.queued.push(false)?;
         self.sessions.add_place()?;
         Ok(which)
     }
 
     /// Has a place stepped in the next round.
     pub(crate) fn enqueue(&mut self, which: usize) -> Result<(), Memory>
-        ensures pass { self.new.sessions.pass ≡ self.old.sessions.pass }
-        ensures waiting { self.new.waiting.items ≡ self.old.waiting.items }
+        ensures { self.new.sessions.pass ≡ self.old.sessions.pass }
     {
-        if let Some(place) = self.places.get_mut(which) {
-            if !place.queued {
-                place.queued = true;
+        if let Some(queued) = self.queued.get_mut(which) {
+            if !*queued {
+                *queued = true;
                 self.queue.push(which)?;
             }
         }
         Ok(())
     }
 
-    /// Has a place stepped after the next store.
-    fn await_store(&mut self, which: usize) -> Result<(), Memory>
+    /// Has a place stepped once something is stored that concerns whose sync rests there.
+    fn await_store(&mut self, alloc: Global, which: usize) -> Result<(), Memory>
         ensures { self.new.sessions.pass ≡ self.old.sessions.pass }
     {
-        if let Some(place) = self.places.get_mut(which) {
-            if !place.waiting {
-                place.waiting = true;
-                self.waiting.push(which)?;
-            }
-        }
-        Ok(())
+        rest_at(alloc, &self.sessions, &mut self.resting, which)
     }
 
     /// Has something done at a place at a reading of the clock, and nothing at the one that was told before.
@@ -200,11 +191,7 @@ impl<P: Port + Drop> Places<P> {
     fn fall_due(&mut self, which: usize) -> Result<(), Memory>
         ensures { self.new.sessions.pass ≡ self.old.sessions.pass }
     {
-        let queued = match self.places.get(which) {
-            Some(place) => place.queued,
-            None => true,
-        };
-        if queued {
+        if self.queued.get(which).copied().unwrap_or(true) {
             Ok(())
         } else if self.sessions.deadline(which).is_some() {
             self.enqueue(which)
@@ -228,22 +215,39 @@ impl<P: Port + Drop> Places<P> {
         Ok(())
     }
 
-    /// Where something was stored since, the places whose syncs rest are stepped in the next round.
-    pub(crate) fn take_stored(&mut self) -> Result<(), Memory>
-        ensures { self.new.sessions.pass ≡ self.old.sessions.pass }
+    /// Where something was stored since, the places whose syncs it concerns are stepped in the next round; all where there is no room to find
+    /// them.
+    pub(crate) fn take_stored<G: Outside, R: Wait>(
+        &mut self,
+        rt: &R,
+        alloc: Global,
+        server: &Server<G>,
+    ) -> Result<(), Memory>
+        requires ties { Ties server.now.engine self.old.sessions.pass }
+        ensures ties { Ties server.now.engine self.new.sessions.pass }
     {
         let raised = self.sessions.raised();
         if raised == self.raised {
             return Ok(());
         }
         self.raised = raised;
-        'waiting: while let Some(which) = self.waiting.pop() {
-            if let Some(place) = self.places.get_mut(which) {
-                place.waiting = false;
-            }
-            self.enqueue(which)?;
+        let looked = self.sessions.look(rt, alloc, server);
+        let mut found = Vec::new(alloc);
+        if looked.is_err() || self.find_concerned(alloc, &mut found).is_err() {
+            self.resting.take_all(&mut found)?;
+        }
+        'found: for which in found.as_slice() {
+            self.enqueue(*which)?;
         }
         Ok(())
+    }
+
+    /// The places whose syncs are concerned by what was seen.
+    fn find_concerned(&mut self, alloc: Global, found: &mut Vec<usize>) -> Result<(), Memory>
+        ensures { self.new.sessions.pass ≡ self.old.sessions.pass }
+    {
+        self.resting
+            .take_concerned(alloc, &self.sessions.pass, found)
     }
 
     /// Steps each place once that is to be stepped; one whose session isn't ready then may be silent for `idle` milliseconds.
@@ -280,18 +284,19 @@ impl<P: Port + Drop> Places<P> {
         requires ties { Ties server.now.engine self.old.sessions.pass }
         ensures ties { Ties server.now.engine self.new.sessions.pass }
     {
-        if let Some(place) = self.places.get_mut(which) {
-            place.queued = false;
+        if let Some(queued) = self.queued.get_mut(which) {
+            *queued = false;
         }
         if which >= self.sessions.count() {
             return Ok(());
         }
+        self.resting.remove(which);
         match self.move_on(rt, alloc, server, clock, which) {
             Stepped::Moved => self.enqueue(which),
             Stepped::Resting => self.set_deadline(which, silent_at),
             Stepped::Waiting(_) => {
                 let at = self.sessions.deadline(which).unwrap_or(silent_at);
-                self.await_store(which)?;
+                self.await_store(alloc, which)?;
                 self.set_deadline(which, at)
             }
             Stepped::Ended => self.end(which),
@@ -318,5 +323,18 @@ impl<P: Port + Drop> Places<P> {
             }
         }
         Stepped::Moved
+    }
+}
+
+/// Puts down that the sync at a place rests, where one does.
+fn rest_at<P: Port>(
+    alloc: Global,
+    sessions: &Sessions<P>,
+    resting: &mut Resting,
+    which: usize,
+) -> Result<(), Memory> {
+    match sessions.asker(which) {
+        Some(user) => resting.put(alloc, &sessions.pass, which, user.as_str()),
+        None => Ok(()),
     }
 }

@@ -8,11 +8,11 @@ ghost use Rattle.mx_loop.specs.Stands.{Starts, sight};
 ghost use Rattle.mx_loop.specs.Turns.{StandsAt};
 
 use crate::line::{State, Stepped};
-use crate::opened::Watch;
+use crate::opened::{Watch, look_on};
 use crate::session::Session;
 use crate::sessions::Sessions;
 use mx_http::Scratch;
-use mx_ids::Memory;
+use mx_ids::{Memory, UserId};
 use mx_outside::{Clock, Port};
 use mx_poll::{EnginePass, Outside};
 use mx_serve::Server;
@@ -67,6 +67,14 @@ impl<P: Port> Sessions<P> {
         }
     }
 
+    /// Who asked the sync that rests at a place; nobody where none rests.
+    pub fn asker(&self, which: usize) -> Option<&UserId> {
+        match &self.at(which)?.state {
+            State::Rests(rest) => Some(rest.poll.user()),
+            _ => None,
+        }
+    }
+
     /// How often those who rest were told that something was stored, modulo 2^64.
     pub fn raised(&self) -> u64 {
         self.watch.flag.raised()
@@ -117,6 +125,24 @@ impl<P: Port> Sessions<P> {
         ensures others { (i : ℕ) → (i ≡ which → ⊥) → slice_get self.new.all.items i ≡ slice_get self.old.all.items i }
     {
         self.all[which] = None;
+    }
+
+    /// Sees what was stored, once the waker that the syncs share is parked at each stream. What the sessions have done stays as it was. `Memory`
+    /// where there is no room for it; the waker may not be parked then.
+    pub(crate) fn look<G: Outside, R: Wait>(
+        &mut self,
+        rt: &R,
+        alloc: Global,
+        server: &Server<G>,
+    ) -> Result<(), Memory>
+        requires ties { Ties server.now.engine self.old.pass }
+        ensures ties { Ties server.now.engine self.new.pass }
+        ensures grows { Grows (stores_of self.old.pass) (stores_of self.new.pass) }
+        ensures all { self.new.all.items ≡ self.old.all.items }
+        ensures stands { (i : ℕ) (start : Moment) → StandsAt P.left P.written (site_of server.now.engine) (stops_of server.now.engine) server.now.limit start self.old.pass self.old.all.items i
+            → StandsAt P.left P.written (site_of server.now.engine) (stops_of server.now.engine) server.now.limit start self.new.pass self.new.all.items i }
+    {
+        look_on(rt, alloc, server, &mut self.pass, &mut self.watch)
     }
 
     /// Moves the session at a place once, where there is one. What the others have done stays as it was.

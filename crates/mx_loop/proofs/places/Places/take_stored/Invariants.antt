@@ -1,8 +1,5 @@
-use Rattle.std.proofs.Common.{◌≡◌, length}
+use Rattle.mx_poll.specs.OfEngine.Shown.{Ties}
 use Rattle.mx_loop.proofs.places.Places.take_stored.Given as goal
 
-abbrev pub invariant-waiting : goal.invariant-waiting
-invariant-waiting g l = l.self.sessions.pass ≡ l.fn.self.sessions.pass
-
-abbrev pub decreases-waiting : goal.decreases-waiting
-decreases-waiting g l = length l.self.waiting.items
+abbrev pub invariant-found : goal.invariant-found
+invariant-found g l = Ties l.server.engine l.self.sessions.pass
