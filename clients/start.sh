@@ -11,13 +11,13 @@ free_port() {
 }
 
 # start_program PROGRAM WORD..: starts the program as a server of four users on the port $port, with these words besides, and waits until it
-# says that it listens.
+# says that it listens. MODE and THREADS set --mode, which is `serve` without, and --threads.
 start_program() {
     local line= errors
     port="$(free_port)"
     printf '%s\n' 'server example.org' 'alice A1 tok_a1' 'alice A2 tok_a2' 'bob B1 tok_b1' \
         'carol C1 tok_c1' 'dave D1 tok_d1' > "$folder/users"
-    exec {errors}< <(exec "$1" --users "$folder/users" --mode serve --listen "127.0.0.1:$port" "${@:2}" 2>&1 > /dev/null < /dev/null)
+    exec {errors}< <(exec "$1" --users "$folder/users" --mode "${MODE:-serve}" ${THREADS:+--threads "$THREADS"} --listen "127.0.0.1:$port" "${@:2}" 2>&1 > /dev/null < /dev/null)
     started="$started $!"
     read -r -t 10 line <&"$errors" || true
     if [[ "$line" != "mxsync: listening on 127.0.0.1:$port"* ]]; then

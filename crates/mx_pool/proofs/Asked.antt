@@ -17,8 +17,8 @@ module _ (m : Meaning) (said : Said) (is : m ≡ Says said) where
   pub run_ran : (w : World) (s : Status) (c : Option (Ended × EnginePass)) → RanBy said w s c → IsRan m w s c
   run_ran w s c r = subst (λ x. IsRan x w s c) (sym is) (inr r)
 
-  pub run_closed : {P : Type 0} (left : Option (List P)) → ServesAt said.listen left → ServesAll m left
-  run_closed left h = subst (λ x. ServesAll x left) (sym is) h
+  pub run_closed : {P Q : Type 0} (left : Option (List P)) (ports : Option (List Q)) → ServesAt said.way left ports → ServesAll m left ports
+  run_closed left ports h = subst (λ x. ServesAll x left ports) (sym is) h
 
   pub run_told : (c : Option (Ended × EnginePass)) (old new : Option (List ℕ)) (f h : ℕ) (s : Status) → TellsWith said.journal said c old new f h s → TellsRun m c old new f h s
   run_told c old new f h s t = subst (λ x. TellsRun x c old new f h s) (sym is) (inr t)
@@ -35,8 +35,8 @@ module _ (m : Meaning) (is : (m ≡ Help) ⊎ (m ≡ Version)) where
   pub text_ran : (w : World) (s : Status) (c : Option (Ended × EnginePass)) → IsPrinted w s c → IsRan m w s c
   text_ran w s c r = as_either (λ x. IsRan x w s c) (inr r) (inr r)
 
-  pub text_closed : {P : Type 0} (left : Option (List P)) → ServesAll m left
-  text_closed left = as_either (λ x. ServesAll x left) tt tt
+  pub text_closed : {P Q : Type 0} (left : Option (List P)) (ports : Option (List Q)) → ServesAll m left ports
+  text_closed left ports = as_either (λ x. ServesAll x left ports) tt tt
 
   pub text_told : (c : Option (Ended × EnginePass)) (old new : Option (List ℕ)) (f h : ℕ) (s : Status) → Tells old new f h (line_of s None) → TellsRun m c old new f h s
   text_told c old new f h s t = as_either (λ x. TellsRun x c old new f h s) t t
@@ -53,8 +53,8 @@ module _ (m : Meaning) (why : List ℕ) (is : (m ≡ Refused) ⊎ (m ≡ Wrong w
   pub refused_ran : (w : World) (s : Status) (c : Option (Ended × EnginePass)) → IsRefused w s c → IsRan m w s c
   refused_ran w s c r = as_refused (λ x. IsRan x w s c) r r
 
-  pub refused_closed : {P : Type 0} (left : Option (List P)) → ServesAll m left
-  refused_closed left = as_refused (λ x. ServesAll x left) tt tt
+  pub refused_closed : {P Q : Type 0} (left : Option (List P)) (ports : Option (List Q)) → ServesAll m left ports
+  refused_closed left ports = as_refused (λ x. ServesAll x left ports) tt tt
 
   pub refused_told : (c : Option (Ended × EnginePass)) (old new : Option (List ℕ)) (f h : ℕ) (s : Status) → Tells old new f h (line_of s (Some (shown why))) → TellsRun m c old new f h s
   refused_told c old new f h s t = as_refused (λ x. TellsRun x c old new f h s) (why, t) t
@@ -69,8 +69,8 @@ short_ran Refused w s c short = (inr short.0, short.1)
 short_ran (Wrong why) w s c short = (inr short.0, short.1)
 
 -- then the status isn't `Done`
-pub short_closed : {P : Type 0} (m : Meaning) (s : Status) (left : Option (List P)) → s ≡ status.Memory refused_memory → s ≡ status.Done → ServesAll m left
-short_closed m s left memory is = absurd (other (sym memory ∙ is))
+pub short_closed : {P Q : Type 0} (m : Meaning) (s : Status) (left : Option (List P)) (ports : Option (List Q)) → s ≡ status.Memory refused_memory → s ≡ status.Done → ServesAll m left ports
+short_closed m s left ports memory is = absurd (other (sym memory ∙ is))
   where
     other : ◌≡◌ {A = Status} (status.Memory refused_memory) status.Done → ⊥
     other e = cc

@@ -10,6 +10,8 @@ use Rattle.std.proofs.sync.ledger.Share.TheSendSync as share
 use Rattle.std.specs.declared.sync.ledger.Ledger.{Ghosts as LedgerGhosts}
 use Rattle.mx_outside.specs.declared.sink.Sink.{Ghosts as SinkGhosts}
 use Rattle.mx_outside.specs.declared.source.Source.{Ghosts as SourceGhosts}
+use Rattle.mx_outside.specs.declared.port.Port.{Ghosts as PortGhosts}
+use Rattle.mx_outside.specs.declared.ports.Ports.{Ghosts as PortsGhosts}
 use Rattle.mx_writers.specs.declared.gate.Gate.{Ghosts as GateGhosts}
 use Rattle.mx_event.specs.contracts.placed.EventPlaced.TheImpl as event_placed
 use Rattle.mx_receipt.specs.contracts.receipt.ReceiptPlaced.TheImpl as receipt_placed
@@ -17,7 +19,9 @@ use Rattle.mx_account.specs.contracts.entry.EntryPlaced.TheImpl as entry_placed
 use Rattle.mx_serve.specs.OfEngine.Outer.{EntryFolds, EventFolds, ReceiptFolds}
 use Rattle.mx_serve.proofs.OfEngine.Crosses.{pass_send}
 use Rattle.mx_serve.proofs.Crosses.{server_send, server_sync}
+use Rattle.mx_serve.specs.contracts.server.Server as Server
 use Rattle.mx_pool.specs.contracts.connection.Connection as Connection
+use Rattle.mx_pool.specs.contracts.looping.Looping as Looping
 use Rattle.mx_pool.specs.contracts.pool.Free as Free
 use Rattle.mx_pool.specs.contracts.pool.Pool as Pool
 use Rattle.mx_pool.specs.contracts.seated.Seated as Seated
@@ -54,3 +58,13 @@ module _ (N : RattleType) (seating : SeatingGhosts N.Denot) (ledger : LedgerGhos
             Arc-send pool_row (pool_send g events receipts accounts) (pool_sync y events receipts accounts),
             (taken_send, (as_row_send (row_field S) s, (as_row_send (row_field K) k, (as_row_send (row_field C) c, (heap, (as_row_send (row_field R) r, tt)))))),
           )
+
+-- a loop goes to a thread of its own
+module _ (G Ev Re Ac : RattleType) (gate : GateGhosts G.Denot) (fe : EventFolds Ev.Denot) (fr : ReceiptFolds Re.Denot) (fa : EntryFolds Ac.Denot) (Q Port C R : RattleType) (ports : PortsGhosts Q.Denot Port.Denot) (port : PortGhosts Port.Denot) where
+  pub looping_send : IsSend G → IsSync G → IsSend Ev → IsSend Re → IsSend Ac → IsSend Q → IsSend C → IsSend R
+      → IsSend (Looping.the_row G Q C R Ev Re Ac Port gate fe event_placed.ghosts fr receipt_placed.ghosts fa entry_placed.ghosts ports port)
+  looping_send g y events receipts accounts q c r =
+      declared_send (Looping.the_type G Q C R Ev Re Ac Port gate fe event_placed.ghosts fr receipt_placed.ghosts fa entry_placed.ghosts ports port) (
+        Arc-send (Server.the_row G Ev Re Ac gate fe fr fa) (server_send G Ev Re Ac gate fe fr fa g events receipts accounts) (server_sync G Ev Re Ac gate fe fr fa y events receipts accounts),
+        (pass_send, (search sendable depth 9, (as_row_send (row_field Q) q, (as_row_send (row_field C) c, (heap, (as_row_send (row_field R) r, tt)))))),
+      )

@@ -31,7 +31,7 @@ use Rattle.mx_pool.specs.declared.serving.Served.{Served}
 use Rattle.mx_pool.specs.declared.status.JournalFault.TheVariants as lacks
 use Rattle.mx_pool.specs.declared.status.Status.{Status}
 use Rattle.mx_pool.specs.declared.status.Status.TheVariants as status
-use Rattle.mx_words.specs.Words.{Said}
+use Rattle.mx_words.specs.Words.{Loop, Pipe, Said, Serve, Way}
 
 -- ---- no engine
 
@@ -127,11 +127,6 @@ kept_done told faults logs s t is cause done = subst (IsKeptCause told faults lo
 pub kept_listener : (told : Option (List ℕ)) (faults logs : Change ℕ) (s t : Status) → t ≡ s → IsKeptCause told faults logs s → t ≡ status.Listener → ⊥
 kept_listener told faults logs s t is cause listener = subst (IsKeptCause told faults logs) (sym is ∙ listener) cause
 
-pub on_unmade : {L P : Type 0} (left : L → Option (List P)) (ends : P → Ends) (listen : Option (List ℕ)) (told : Option (List ℕ)) (said : Said) (file : List ℕ → Option (List ℕ)) (came : Arrivals P) (s : Status)
-    → IsIdle came → (s ≡ status.Done → ⊥) → ServesOn listen told said file left ends came s
-on_unmade left ends None told said file came s idle other = idle
-on_unmade left ends (Some address) told said file came s idle other = inl (idle, other)
-
 pub told_unmade : (listen : Option (List ℕ)) (file name : List ℕ) (c : Option (Ended × EnginePass)) (old new : Option (List ℕ)) (f h : ℕ) (s t : Status) → c ≡ None → t ≡ s → TellsNone file name old new f h s
     → TellsOn listen file name c old new f h t
 told_unmade None file name c old new f h s t none is told =
@@ -194,17 +189,11 @@ served_listener b users workers limit left written reads writes clock s (Some c)
     go end.WriteFault e = cc
     go (end.Memory _) e = cc
 
-pub idle_on : {L P : Type 0} (left : L → Option (List P)) (ends : P → Ends) (listen : Option (List ℕ)) (told : Option (List ℕ)) (said : Said) (file : List ℕ → Option (List ℕ)) (came : Arrivals P) (s : Status) → listen ≡ None
-    → IsIdle came → ServesOn listen told said file left ends came s
-idle_on left ends listen told said file came s at idle = subst (λ l. ServesOn l told said file left ends came s) (sym at) idle
+pub idle_on : {L P : Type 0} (left : L → Option (List P)) (ends : P → Ends) (way : Way) (told : Option (List ℕ)) (said : Said) (file : List ℕ → Option (List ℕ)) (came : Arrivals P) (s : Status) → way ≡ Pipe
+    → IsIdle came → ServesOn way told said file left ends came s
+idle_on left ends way told said file came s at idle = subst (λ w. ServesOn w told said file left ends came s) (sym at) idle
 
 -- ---- a server
-
--- the line of an address that isn't bound
-pub unbound_told : (address : List ℕ) (old new : Option (List ℕ)) (f h : ℕ) (s : Status) → (s ≡ status.Listener) ⊎ (s ≡ status.Memory refused_memory) → Tells old new f h (line_of s (Some (shown address)))
-    → TellsListened address old new f h s
-unbound_told address old new f h s (inl is) line = subst (λ t. TellsListened address old new f h t) (sym is) (inl (subst (λ t. Tells old new f h (line_of t (Some (shown address)))) is line))
-unbound_told address old new f h s (inr is) line = subst (λ t. TellsListened address old new f h t) (sym is) (inl (subst (λ t. Tells old new f h (line_of t (Some (shown address)))) is line))
 
 module _ {L P : Type 0} (left : L → Option (List P)) (ends : P → Ends) (service : Service) (lists : Histories) where
   -- no connection was begun where no address is bound
@@ -220,13 +209,13 @@ module _ {L P : Type 0} (left : L → Option (List P)) (ends : P → Ends) (serv
       inr (∥∥₁_map h (λ x. (how, is, seen, subst (λ (l : Option (List P)). HasServed service left ends (change l after) starts how seen) same x, grows)))
 
   -- at an address, for the users of the file
-  pub on_address : (listen : Option (List ℕ)) (address : List ℕ) (told : Option (List ℕ)) (said : Said) (file : List ℕ → Option (List ℕ)) (came : Arrivals P) (s t : Status) (users : Users) → Some address ≡ listen → t ≡ s
+  pub on_address : (way : Way) (address : List ℕ) (told : Option (List ℕ)) (said : Said) (file : List ℕ → Option (List ℕ)) (came : Arrivals P) (s t : Status) (users : Users) → Serve address ≡ way → t ≡ s
       → HasUsers (file said.users) users → service ≡ service_with kept_stops users said.workers said.requests → Begins told lists
-      → (HasNone came s ⊎ ∥ HasServedFrom service lists left ends came s ∥₁) → ServesOn listen told said file left ends came t
-  on_address listen address told said file came s t users at is has are stores h =
-      subst (λ l. ServesOn l told said file left ends came t) at (subst (λ u. ServesOn (Some address) told said file left ends came u) (sym is) (go h))
+      → (HasNone came s ⊎ ∥ HasServedFrom service lists left ends came s ∥₁) → ServesOn way told said file left ends came t
+  on_address way address told said file came s t users at is has are stores h =
+      subst (λ w. ServesOn w told said file left ends came t) at (subst (λ u. ServesOn (Serve address) told said file left ends came u) (sym is) (go h))
     where
-      go : (HasNone came s ⊎ ∥ HasServedFrom service lists left ends came s ∥₁) → ServesOn (Some address) told said file left ends came s
+      go : (HasNone came s ⊎ ∥ HasServedFrom service lists left ends came s ∥₁) → ServesOn (Serve address) told said file left ends came s
       go (inl none) = inl none
       go (inr h) = inr (users, has, ∥∥₁_map h (λ x. (lists, stores, subst (λ (v : Service). HasServedFrom v lists left ends came s) are x)))
 
@@ -250,8 +239,11 @@ pub ran_server_on : (listen : Option (List ℕ)) (address name : List ℕ) (said
 ran_server_on listen address name said w s t c users at none is still has only =
     subst (λ l. RanModeOn l name said w t c) at (none, still, subst (IsKeptEnd (w.file said.users) w.file_faults w.journal_faults) (sym is) (server_end (w.file said.users) w.file_faults w.journal_faults users s has only))
 
-pub closed_on : {P : Type 0} (listen : Option (List ℕ)) (address : List ℕ) (left : Option (List P)) → Some address ≡ listen → HasNoneLeft left → ServesAt listen left
-closed_on listen address left at h = subst (λ l. ServesAt l left) at h
+pub closed_on : {P Q : Type 0} (way : Way) (address : List ℕ) (left : Option (List P)) (ports : Option (List Q)) → Serve address ≡ way → HasNoneLeft left → ServesAt way left ports
+closed_on way address left ports at h = subst (λ w. ServesAt w left ports) at h
+
+pub closed_loops : {P Q : Type 0} (way : Way) (address : List ℕ) (left : Option (List P)) (ports : Option (List Q)) → Loop address ≡ way → HasNoneLeft ports → ServesAt way left ports
+closed_loops way address left ports at h = subst (λ w. ServesAt w left ports) at h
 
 pub told_server_on : (listen : Option (List ℕ)) (address file name : List ℕ) (c : Option (Ended × EnginePass)) (old new : Option (List ℕ)) (f h : ℕ) (s t : Status) → Some address ≡ listen → t ≡ s
     → TellsListened address old new f h s → TellsOn listen file name c old new f h t

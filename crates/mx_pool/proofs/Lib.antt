@@ -6,3 +6,4 @@ pub mod Gathered
 pub mod Journaled
 pub mod Outcomes
 pub mod Runs
+pub mod Loops

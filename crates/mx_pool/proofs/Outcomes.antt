@@ -18,7 +18,7 @@ use Rattle.mx_pool.specs.Lines.{Tells, line_of, shown}
 use Rattle.mx_pool.specs.Serving.{IsServerStatus}
 use Rattle.mx_pool.specs.Connections.{Change, Clocked}
 use Rattle.mx_pool.specs.Runs.{HasRisen, HasUsers, IsBroken, IsCause, IsPrinted, IsRan, IsKeptCause, IsKeptEnd, IsServerEnd, IsShort, IsUsage, Prints, RanMode, RanModeOn, RanPipe, RanPipeOn, RanWith, ServesUsers, TellsAt, TellsPipe, TellsServer, TellsWith, World, status_of, users_limit}
-use Rattle.mx_words.specs.Words.{Help, Meaning, Refused, Said, Says, Version, Wrong}
+use Rattle.mx_words.specs.Words.{Help, Meaning, Refused, Said, Says, Version, Wrong, address_in}
 use Rattle.mx_serve.proofs.Served.{some-more}
 
 -- the users that were read are those of the file
@@ -61,8 +61,8 @@ mode_on_outside None name said w s c r is = pipe_on_outside name said w s c r is
 mode_on_outside (Some address) name said w s c r is = inl (subst (IsKeptEnd (w.file said.users) w.file_faults w.journal_faults) is r.2)
 
 with_outside : (journal : Option (List ℕ)) (said : Said) (w : World) (s : Status) (c : Option (Ended × EnginePass)) → RanWith journal said w s c → s ≡ status.Outside → HasRisen w.file_faults ⊎ (HasRisen w.read_faults ⊎ HasRisen w.write_faults)
-with_outside None said w s c r is = mode_outside said.listen said w s c r is
-with_outside (Some name) said w s c r is = mode_on_outside said.listen name said w s c r is
+with_outside None said w s c r is = mode_outside (address_in said.way) said w s c r is
+with_outside (Some name) said w s c r is = mode_on_outside (address_in said.way) name said w s c r is
 
 -- no run ends with both
 memory_outside : (s : Status) → s ≡ status.Memory refused_memory → s ≡ status.Outside → ⊥
@@ -126,8 +126,8 @@ mode_on_usage None name said w s c r is = pipe_on_usage name said w s c r is
 mode_on_usage (Some address) name said w s c r is = subst (IsKeptEnd (w.file said.users) w.file_faults w.journal_faults) is r.2
 
 with_usage : (journal : Option (List ℕ)) (said : Said) (w : World) (s : Status) (c : Option (Ended × EnginePass)) → RanWith journal said w s c → s ≡ status.Usage → ⊥
-with_usage None said w s c r is = mode_usage said.listen said w s c r is
-with_usage (Some name) said w s c r is = mode_on_usage said.listen name said w s c r is
+with_usage None said w s c r is = mode_usage (address_in said.way) said w s c r is
+with_usage (Some name) said w s c r is = mode_on_usage (address_in said.way) name said w s c r is
 
 memory_usage : (s : Status) → s ≡ status.Memory refused_memory → s ≡ status.Usage → ⊥
 memory_usage s memory is = other (sym memory ∙ is)
@@ -248,8 +248,8 @@ mode_any : (listen : Option (List ℕ)) (said : Said) (w : World) (f : List ℕ 
 mode_any None said w f d s c r = pipe_any said w f d s c r
 mode_any (Some address) said w f d s c r = r
 
-pub ran_plain : (journal : Option (List ℕ)) (said : Said) (w : World) (f : List ℕ → Option (List ℕ)) (d : Change ℕ) (s : Status) (c : Option (Ended × EnginePass)) → journal ≡ None → RanMode said.listen said w s c → RanWith journal said (record w { journal = f; journal_faults = d }) s c
-ran_plain journal said w f d s c is r = subst (λ j. RanWith j said (record w { journal = f; journal_faults = d }) s c) (sym is) (mode_any said.listen said w f d s c r)
+pub ran_plain : (journal : Option (List ℕ)) (said : Said) (w : World) (f : List ℕ → Option (List ℕ)) (d : Change ℕ) (s : Status) (c : Option (Ended × EnginePass)) → journal ≡ None → RanMode (address_in said.way) said w s c → RanWith journal said (record w { journal = f; journal_faults = d }) s c
+ran_plain journal said w f d s c is r = subst (λ j. RanWith j said (record w { journal = f; journal_faults = d }) s c) (sym is) (mode_any (address_in said.way) said w f d s c r)
 
-pub tells_plain : (journal : Option (List ℕ)) (said : Said) (c : Option (Ended × EnginePass)) (old new : Option (List ℕ)) (f h : ℕ) (s : Status) → journal ≡ None → TellsAt said.listen said.users c old new f h s → TellsWith journal said c old new f h s
+pub tells_plain : (journal : Option (List ℕ)) (said : Said) (c : Option (Ended × EnginePass)) (old new : Option (List ℕ)) (f h : ℕ) (s : Status) → journal ≡ None → TellsAt (address_in said.way) said.users c old new f h s → TellsWith journal said c old new f h s
 tells_plain journal said c old new f h s is r = subst (λ j. TellsWith j said c old new f h s) (sym is) r

@@ -21,7 +21,7 @@ use Rattle.mx_serve.specs.Sessions.{InputFaults, IsServed, OutputFaults, moment}
 use Rattle.mx_serve.specs.declared.ended.Ended.{Ended}
 use Rattle.mx_pool.specs.declared.status.Status.{Status}
 use Rattle.mx_pool.specs.declared.status.Status.TheVariants as status
-use Rattle.mx_words.specs.Words.{Help, Meaning, Refused, Said, Says, Version, Wrong}
+use Rattle.mx_words.specs.Words.{Help, Loop, Meaning, Pipe, Refused, Said, Says, Serve, Version, Way, Wrong}
 use Rattle.mx_serve.proofs.Chaining.{connections_agree}
 
 module _ (users : Users) (workers limit : ℕ) (left written : Change (Option (List ℕ))) (reads writes : Change ℕ) (clock : Change Clocked) (ended : Ended) (p : EnginePass) where
@@ -119,27 +119,41 @@ module _ {L P : Type 0} (left : L → Option (List P)) (ends : P → Ends) where
   file_for users said file came s has (inr h) = inr (users, has, h)
 
   -- at the address of the words
-  pub by_address : (listen : Option (List ℕ)) (address : List ℕ) (said : Said) (file : List ℕ → Option (List ℕ)) (came : Arrivals P) (s t : Status) → Some address ≡ listen → t ≡ s
-      → ServesFile said file left ends came s → ServesBy listen said file left ends came t
-  by_address listen address said file came s t at is h =
-      subst (λ l. ServesBy l said file left ends came t) at (subst (λ u. ServesFile said file left ends came u) (sym is) h)
+  pub by_address : (way : Way) (address : List ℕ) (said : Said) (file : List ℕ → Option (List ℕ)) (came : Arrivals P) (s t : Status) → Serve address ≡ way → t ≡ s
+      → ServesFile said file left ends came s → ServesBy way said file left ends came t
+  by_address way address said file came s t at is h =
+      subst (λ w. ServesBy w said file left ends came t) at (subst (λ u. ServesFile said file left ends came u) (sym is) h)
 
-  by_none : (listen : Option (List ℕ)) (said : Said) (file : List ℕ → Option (List ℕ)) (came : Arrivals P) (s : Status) → IsIdle came → (s ≡ status.Done → ⊥) → ServesBy listen said file left ends came s
-  by_none None said file came s idle other = idle
-  by_none (Some address) said file came s idle other = inl (idle, other)
+  -- none of the listener's pairs is taken by loops
+  pub by_loops : (way : Way) (address : List ℕ) (said : Said) (file : List ℕ → Option (List ℕ)) (came : Arrivals P) (s : Status) → Loop address ≡ way → came.pairs.after ≡ came.pairs.before → ServesBy way said file left ends came s
+  by_loops way address said file came s at same = subst (λ w. ServesBy w said file left ends came s) at same
 
-  on_none : (listen : Option (List ℕ)) (told : Option (List ℕ)) (said : Said) (file : List ℕ → Option (List ℕ)) (came : Arrivals P) (s : Status) → IsIdle came → (s ≡ status.Done → ⊥) → ServesOn listen told said file left ends came s
-  on_none None told said file came s idle other = idle
-  on_none (Some address) told said file came s idle other = inl (idle, other)
+  pub on_loops : (way : Way) (address : List ℕ) (told : Option (List ℕ)) (said : Said) (file : List ℕ → Option (List ℕ)) (came : Arrivals P) (s : Status) → Loop address ≡ way → came.pairs.after ≡ came.pairs.before
+      → ServesOn way told said file left ends came s
+  on_loops way address told said file came s at same = subst (λ w. ServesOn w told said file left ends came s) at same
+
+  by_none : (way : Way) (said : Said) (file : List ℕ → Option (List ℕ)) (came : Arrivals P) (s : Status) → IsIdle came → (s ≡ status.Done → ⊥) → ServesBy way said file left ends came s
+  by_none Pipe said file came s idle other = idle
+  by_none (Serve address) said file came s idle other = inl (idle, other)
+  by_none (Loop address) said file came s idle other = idle.pairs_are
+
+  pub on_none : (way : Way) (told : Option (List ℕ)) (said : Said) (file : List ℕ → Option (List ℕ)) (came : Arrivals P) (s : Status) → IsIdle came → (s ≡ status.Done → ⊥) → ServesOn way told said file left ends came s
+  on_none Pipe told said file came s idle other = idle
+  on_none (Serve address) told said file came s idle other = inl (idle, other)
+  on_none (Loop address) told said file came s idle other = idle.pairs_are
 
   -- by the journal of the words
-  pub served_plain : (journal : Option (List ℕ)) (journals : List ℕ → Option (List ℕ)) (said : Said) (file : List ℕ → Option (List ℕ)) (came : Arrivals P) (s : Status) → journal ≡ None → ServesBy said.listen said file left ends came s → ServesWith journal journals said file left ends came s
+  pub served_plain : (journal : Option (List ℕ)) (journals : List ℕ → Option (List ℕ)) (said : Said) (file : List ℕ → Option (List ℕ)) (came : Arrivals P) (s : Status) → journal ≡ None → ServesBy said.way said file left ends came s → ServesWith journal journals said file left ends came s
   served_plain journal journals said file came s is r = subst (λ j. ServesWith j journals said file left ends came s) (sym is) r
+
+  pub served_kept : (journal : Option (List ℕ)) (name : List ℕ) (journals : List ℕ → Option (List ℕ)) (said : Said) (file : List ℕ → Option (List ℕ)) (came : Arrivals P) (s : Status) → journal ≡ Some name
+      → ServesOn said.way (journals name) said file left ends came s → ServesWith journal journals said file left ends came s
+  served_kept journal name journals said file came s is r = subst (λ j. ServesWith j journals said file left ends came s) (sym is) r
 
   -- nothing is served where no run is asked, or there is no memory to read the words
   with_none : (journal : Option (List ℕ)) (journals : List ℕ → Option (List ℕ)) (said : Said) (file : List ℕ → Option (List ℕ)) (came : Arrivals P) (s : Status) → IsIdle came → (s ≡ status.Done → ⊥) → ServesWith journal journals said file left ends came s
-  with_none None journals said file came s idle other = by_none said.listen said file came s idle other
-  with_none (Some name) journals said file came s idle other = on_none said.listen (journals name) said file came s idle other
+  with_none None journals said file came s idle other = by_none said.way said file came s idle other
+  with_none (Some name) journals said file came s idle other = on_none said.way (journals name) said file came s idle other
 
   pub run_none : (m : Meaning) (journals file : List ℕ → Option (List ℕ)) (came : Arrivals P) (s : Status) → IsIdle came → ((s ≡ status.Done → ⊥) ⊎ ((m ≡ Help) ⊎ (m ≡ Version))) → ServesRun m journals file left ends came s
   run_none (Says said) journals file came s idle (inl other) = with_none said.journal journals said file came s idle other

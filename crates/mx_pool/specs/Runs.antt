@@ -11,6 +11,8 @@ use Rattle.mx_serve.specs.OfEngine.Answers.{Stops, nothing, stops_at, stops_with
 use Rattle.mx_serve.specs.Aims.Asked.{Site}
 use Rattle.mx_serve.specs.OfEngine.Shown.{Looks, all_started, none_made, stores_of}
 use Rattle.mx_serve.specs.OfEngine.Written.{Made}
+use Rattle.mx_loop.specs.declared.looping.Looped.{Looped}
+use Rattle.mx_loop.specs.declared.looping.Looped.TheVariants as looped
 use Rattle.mx_restore.specs.Restored.{Begins}
 use Rattle.mx_restore.specs.declared.wrong.RestoreFault.{RestoreFault}
 use Rattle.mx_restore.specs.declared.wrong.RestoreFault.TheVariants as restore
@@ -21,7 +23,7 @@ use Rattle.mx_serve.specs.declared.ended.Ended.{Ended}
 use Rattle.mx_pool.specs.Connections.{Change, Clocked, Ends, Service}
 use Rattle.mx_pool.specs.Lines.{Tells, TellsTwo, line_of, listening_line, shown, unkept_text}
 use Rattle.mx_pool.specs.Serving.{HasNoneLeft, HasServed}
-use Rattle.mx_words.specs.Words.{Help, Meaning, Refused, Said, Says, Version, Wrong}
+use Rattle.mx_words.specs.Words.{Help, Loop, Meaning, Pipe, Refused, Said, Says, Serve, Version, Way, Wrong, address_in}
 use Rattle.mx_pool.specs.declared.serving.Served.{Served}
 use Rattle.mx_pool.specs.declared.serving.Served.TheVariants as served
 use Rattle.mx_pool.specs.declared.status.JournalFault.TheVariants as lacks
@@ -63,6 +65,12 @@ status_of (end.Refused _) = status.RequestStream
 status_of end.ReadFault = status.Outside
 status_of end.WriteFault = status.Outside
 status_of (end.Memory m) = status.Memory m
+
+-- the status of a loop's end
+abbrev pub looped_status : Looped → Status
+looped_status looped.Closed = status.Done
+looped_status looped.ListenFailed = status.Listener
+looped_status (looped.Memory m) = status.Memory m
 
 -- the status of a server's end
 abbrev pub server_status : Served → Status
@@ -157,7 +165,7 @@ IsServerEnd told faults status.Done = (users : Users) × HasUsers told users
 IsServerEnd told faults status.Listener = (users : Users) × HasUsers told users
 IsServerEnd told faults other = IsCause told faults other
 
--- what a run did, by the address of its words: mode `pipe` has none
+-- what a run did, by the address of its words, if their mode has one
 abbrev pub RanMode : Option (List ℕ) → Said → World → Status → Option (Ended × EnginePass) → Type 0
 RanMode None said w s connection = RanPipe said w s connection
 RanMode (Some address) said w s connection = (connection ≡ None) × Untouched w.left w.written w.clock × IsServerEnd (w.file said.users) w.file_faults s
@@ -195,8 +203,8 @@ RanModeOn (Some address) name said w s connection = (connection ≡ None) × Unt
 
 -- what a run did, by the journal of its words, if they name one
 abbrev pub RanWith : Option (List ℕ) → Said → World → Status → Option (Ended × EnginePass) → Type 0
-RanWith None said w s connection = RanMode said.listen said w s connection
-RanWith (Some name) said w s connection = RanModeOn said.listen name said w s connection
+RanWith None said w s connection = RanMode (address_in said.way) said w s connection
+RanWith (Some name) said w s connection = RanModeOn (address_in said.way) name said w s connection
 
 abbrev pub RanBy : Said → World → Status → Option (Ended × EnginePass) → Type 0
 RanBy said w s connection = RanWith said.journal said w s connection
@@ -241,14 +249,15 @@ IsUsage Version s = s ≡ status.Usage → ⊥
 IsUsage Refused s = (s ≡ status.Usage) ⊎ (s ≡ status.Memory refused_memory)
 IsUsage (Wrong why) s = (s ≡ status.Usage) ⊎ (s ≡ status.Memory refused_memory)
 
--- in mode `serve` no pair is left, where the listener tells them
-abbrev pub ServesAt : {P : Type 0} → Option (List ℕ) → Option (List P) → Type 0
-ServesAt None left = ⊤
-ServesAt (Some address) left = HasNoneLeft left
+-- in mode `serve` no pair is left, and in mode `loop` no port, where they are told
+abbrev pub ServesAt : {P Q : Type 0} → Way → Option (List P) → Option (List Q) → Type 0
+ServesAt Pipe left ports = ⊤
+ServesAt (Serve address) left ports = HasNoneLeft left
+ServesAt (Loop address) left ports = HasNoneLeft ports
 
-abbrev pub ServesAll : {P : Type 0} → Meaning → Option (List P) → Type 0
-ServesAll (Says said) left = ServesAt said.listen left
-ServesAll other left = ⊤
+abbrev pub ServesAll : {P Q : Type 0} → Meaning → Option (List P) → Option (List Q) → Type 0
+ServesAll (Says said) left ports = ServesAt said.way left ports
+ServesAll other left ports = ⊤
 
 -- what a server of so many writers and requests is, for these users, by the bounds of its streams
 abbrev pub service_with : Stops → Users → ℕ → ℕ → Service
@@ -302,20 +311,22 @@ ServesFor users workers limit left ends came s = HasNone came s ⊎ ∥ HasServe
 abbrev pub ServesFile : {L P : Type 0} → Said → (List ℕ → Option (List ℕ)) → (L → Option (List P)) → (P → Ends) → Arrivals P → Status → Type 0
 ServesFile said file left ends came s = HasNone came s ⊎ ((users : Users) × HasUsers (file said.users) users × ∥ HasServedFor users said.workers said.requests left ends came s ∥₁)
 
--- in mode `serve`; in mode `pipe` no connection is begun
-abbrev pub ServesBy : {L P : Type 0} → Option (List ℕ) → Said → (List ℕ → Option (List ℕ)) → (L → Option (List P)) → (P → Ends) → Arrivals P → Status → Type 0
-ServesBy None said file left ends came s = IsIdle came
-ServesBy (Some address) said file left ends came s = ServesFile said file left ends came s
+-- in mode `serve`; in mode `pipe` no connection is begun, and in mode `loop` none of the listener's
+abbrev pub ServesBy : {L P : Type 0} → Way → Said → (List ℕ → Option (List ℕ)) → (L → Option (List P)) → (P → Ends) → Arrivals P → Status → Type 0
+ServesBy Pipe said file left ends came s = IsIdle came
+ServesBy (Serve address) said file left ends came s = ServesFile said file left ends came s
+ServesBy (Loop address) said file left ends came s = came.pairs.after ≡ came.pairs.before
 
 -- the same on a journal
-abbrev pub ServesOn : {L P : Type 0} → Option (List ℕ) → Option (List ℕ) → Said → (List ℕ → Option (List ℕ)) → (L → Option (List P)) → (P → Ends) → Arrivals P → Status → Type 0
-ServesOn None told said file left ends came s = IsIdle came
-ServesOn (Some address) told said file left ends came s = ServesFileOn told said file left ends came s
+abbrev pub ServesOn : {L P : Type 0} → Way → Option (List ℕ) → Said → (List ℕ → Option (List ℕ)) → (L → Option (List P)) → (P → Ends) → Arrivals P → Status → Type 0
+ServesOn Pipe told said file left ends came s = IsIdle came
+ServesOn (Serve address) told said file left ends came s = ServesFileOn told said file left ends came s
+ServesOn (Loop address) told said file left ends came s = came.pairs.after ≡ came.pairs.before
 
 -- by the journal of the words, if they name one, and what is told of its bytes
 abbrev pub ServesWith : {L P : Type 0} → Option (List ℕ) → (List ℕ → Option (List ℕ)) → Said → (List ℕ → Option (List ℕ)) → (L → Option (List P)) → (P → Ends) → Arrivals P → Status → Type 0
-ServesWith None journal said file left ends came s = ServesBy said.listen said file left ends came s
-ServesWith (Some name) journal said file left ends came s = ServesOn said.listen (journal name) said file left ends came s
+ServesWith None journal said file left ends came s = ServesBy said.way said file left ends came s
+ServesWith (Some name) journal said file left ends came s = ServesOn said.way (journal name) said file left ends came s
 
 -- what a run served in mode `serve`, by its words
 abbrev pub ServesRun : {L P : Type 0} → Meaning → (List ℕ → Option (List ℕ)) → (List ℕ → Option (List ℕ)) → (L → Option (List P)) → (P → Ends) → Arrivals P → Status → Type 0
@@ -377,10 +388,15 @@ TellsUnbound address old new faults_old faults_new status.Listener = Tells old n
 TellsUnbound address old new faults_old faults_new (status.Memory m) = Tells old new faults_old faults_new (line_of (status.Memory m) None)
 TellsUnbound address old new faults_old faults_new other = ⊥
 
--- the lines of a server that is made: the address, once it is bound, and then why the status isn't 0; or why it isn't bound
+-- the lines of a server that is made: the address, once it is bound, with what is said behind it, and then why the status isn't 0; or why
+-- it isn't bound
+abbrev pub TellsBound : List ℕ → List ℕ → Option (List ℕ) → Option (List ℕ) → ℕ → ℕ → Status → Type 0
+TellsBound says address old new faults_old faults_new s =
+    TellsUnbound address old new faults_old faults_new s ⊎ TellsTwo old new faults_old faults_new (listening_line address says) (line_of s None)
+
+-- the same on a journal
 abbrev pub TellsListened : List ℕ → Option (List ℕ) → Option (List ℕ) → ℕ → ℕ → Status → Type 0
-TellsListened address old new faults_old faults_new s =
-    TellsUnbound address old new faults_old faults_new s ⊎ TellsTwo old new faults_old faults_new (listening_line address (codes "\n")) (line_of s None)
+TellsListened address old new faults_old faults_new s = TellsBound (codes "\n") address old new faults_old faults_new s
 
 -- the lines of a run on a journal of a name at an address, or at none
 abbrev pub TellsOn : Option (List ℕ) → List ℕ → List ℕ → Option (Ended × EnginePass) → Option (List ℕ) → Option (List ℕ) → ℕ → ℕ → Status → Type 0
@@ -395,8 +411,8 @@ TellsAt (Some address) file connection old new faults_old faults_new s = TellsSe
 
 -- by the journal of the words, if they name one
 abbrev pub TellsWith : Option (List ℕ) → Said → Option (Ended × EnginePass) → Option (List ℕ) → Option (List ℕ) → ℕ → ℕ → Status → Type 0
-TellsWith None said connection old new faults_old faults_new s = TellsAt said.listen said.users connection old new faults_old faults_new s
-TellsWith (Some name) said connection old new faults_old faults_new s = TellsOn said.listen said.users name connection old new faults_old faults_new s
+TellsWith None said connection old new faults_old faults_new s = TellsAt (address_in said.way) said.users connection old new faults_old faults_new s
+TellsWith (Some name) said connection old new faults_old faults_new s = TellsOn (address_in said.way) said.users name connection old new faults_old faults_new s
 
 -- the lines of a run, by its words: why they aren't of their form, which is what `clap` says where it refuses them; there may have been
 -- no memory to read them

@@ -10,15 +10,16 @@ ghost use Rattle.mx_pool.specs.Lines.{Tells, line_of};
 ghost use Rattle.mx_pool.specs.Runs.{HasNone, HasServedFrom, HasUsers, IsKeptCause, RanModeOn, ServesAt, ServesFrom, ServesOn, TellsListened, TellsNone, TellsOn, TellsUnmade, arrivals, kept_stops, site_for, status_for};
 ghost use Rattle.mx_pool.specs.Serving.{HasNoneLeft, IsServerStatus};
 ghost use Rattle.mx_restore.specs.Restored.{Begins};
-ghost use Rattle.mx_words.specs.Words.{said_by};
+ghost use Rattle.mx_words.specs.Words.{address_in, said_by};
 
+use crate::looping::loop_on;
 use crate::serving::serve;
 use crate::session::{Ran, set_up, unserved, users_told};
 use crate::site::server_on;
 use crate::status::{JournalFault, Status, server_status, status_of};
 use crate::telling::{tell, tell_about, tell_address};
 use mx_log::Logs;
-use mx_outside::{Clock, Files, Listened, Listener, Sink, Source, Spawner};
+use mx_outside::{Clock, Files, Listened, Listener, Ports, Sink, Source, Spawner};
 use mx_restore::{Kept, RestoreFault};
 use mx_serve::{EnginePass, Outside, Server, serve_connection};
 use mx_words::{Mode, Words};
@@ -36,6 +37,7 @@ pub(crate) fn run_kept<
     E: Sink,
     C: Clock + Drop + Send + 'static,
     L: Listener,
+    Q: Ports + Drop + Send + 'static,
     R: Wait + rt::Clock + Threads + Copy + Drop + Send + 'static,
 >(
     rt: &R,
@@ -50,13 +52,15 @@ pub(crate) fn run_kept<
     clock: &mut C,
     listener: &mut L,
     spawner: &mut Spawner,
+    ports: &mut Q,
 ) -> Ran
 where
     L::In: Drop + Send + 'static,
     L::Out: Drop + Send + 'static,
+    Q::Port: Drop + Send + 'static,
     requires workers { (1 ≤ words.now.workers) × (words.now.workers ≤ 16) }
     requires connections { 1 ≤ words.now.connections }
-    ensures ran { RanModeOn (said_by words.now).listen name.now (said_by words.now) (record {
+    ensures ran { RanModeOn (address_in (said_by words.now).way) name.now (said_by words.now) (record {
       file = F.told files.old;
       journal = J.told logs.old;
       left = change (S.left input.old) (S.left input.new);
@@ -67,11 +71,11 @@ where
       write_faults = change (K.faults output.old) (K.faults output.new);
       clock = change (clocked (C.last clock.old) (C.readings clock.old)) (clocked (C.last clock.new) (C.readings clock.new));
     }) result.status result.connection }
-    ensures closed { result.status ≡ Status.Done → ServesAt (said_by words.now).listen (L.left listener.new) }
-    ensures listener { result.status ≡ Status.Listener → Rose (L.faults listener.old) (L.faults listener.new) ⊎ Rose spawner.old.plan.faults spawner.new.plan.faults }
-    ensures served { ServesOn (said_by words.now).listen (J.told logs.old name.now) (said_by words.now) (F.told files.old) L.left (ends_by L.In.left L.Out.written L.In.faults L.Out.faults)
+    ensures closed { result.status ≡ Status.Done → ServesAt (said_by words.now).way (L.left listener.new) (Q.left ports.new) }
+    ensures listener { result.status ≡ Status.Listener → Rose (L.faults listener.old) (L.faults listener.new) ⊎ (Rose spawner.old.plan.faults spawner.new.plan.faults ⊎ Rose (Q.faults ports.old) (Q.faults ports.new)) }
+    ensures served { ServesOn (said_by words.now).way (J.told logs.old name.now) (said_by words.now) (F.told files.old) L.left (ends_by L.In.left L.Out.written L.In.faults L.Out.faults)
         (arrivals (change (L.left listener.old) (L.left listener.new)) (change spawner.old.plan.next spawner.new.plan.next)) result.status }
-    ensures told { TellsOn (said_by words.now).listen (said_by words.now).users name.now result.connection (E.written errors.old) (E.written errors.new) (E.faults errors.old) (E.faults errors.new) result.status }
+    ensures told { TellsOn (address_in (said_by words.now).way) (said_by words.now).users name.now result.connection (E.written errors.old) (E.written errors.new) (E.faults errors.old) (E.faults errors.new) result.status }
 {
     let (server, pass) = match kept_server(rt, alloc, words, name, files, logs, errors) {
         Ok(made) => made,
@@ -90,6 +94,19 @@ where
             clock,
             listener,
             spawner,
+        )),
+        Mode::Loop(address) => unserved(loop_on(
+            rt,
+            alloc,
+            server,
+            pass,
+            words,
+            address.as_str(),
+            b"\n",
+            errors,
+            clock,
+            spawner,
+            ports,
         )),
     }
 }

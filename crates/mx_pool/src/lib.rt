@@ -15,6 +15,7 @@
 mod connection;
 mod gathering;
 mod kept;
+mod looping;
 mod pool;
 mod seated;
 mod serving;

@@ -5,15 +5,16 @@ ghost use Rattle.mx_pool.specs.Lines.{Tells, line_of, shown};
 ghost use Rattle.mx_pool.specs.Connections.{change, clocked, ends_by};
 ghost use Rattle.mx_pool.specs.Runs.{HasUsers, IsCause, IsRan, IsServerEnd, IsUsage, Prints, RanBy, RanMode, RanPipe, ServesAll, ServesAt, ServesBy, ServesFile, ServesFor, ServesRun, ServesWith, TellsAt, TellsPipe, TellsRun, TellsServer, TellsWith, arrivals};
 ghost use Rattle.mx_pool.specs.Serving.{HasNoneLeft, IsServerStatus};
-ghost use Rattle.mx_words.specs.Words.{asked_of, said_by};
+ghost use Rattle.mx_words.specs.Words.{address_in, asked_of, said_by};
 
 use crate::kept::run_kept;
+use crate::looping::loop_on;
 use crate::serving::serve;
 use crate::site::{serve_users, server_for};
 use crate::status::{Status, server_status};
 use crate::telling::{tell, tell_about, tell_address};
 use mx_log::Logs;
-use mx_outside::{Clock, FileFault, Files, Listened, Listener, Put, Sink, Source, Spawner};
+use mx_outside::{Clock, FileFault, Files, Listened, Listener, Ports, Put, Sink, Source, Spawner};
 use mx_serve::{Ended, EnginePass};
 use mx_users::{Directory, UsersFault, read_users};
 use mx_words::{Asked, Mode, Words, WordsFault, read_words};
@@ -62,6 +63,7 @@ pub fn run<
     E: Sink,
     C: Clock + Drop + Send + 'static,
     L: Listener,
+    Q: Ports + Drop + Send + 'static,
     R: Wait + rt::Clock + Threads + Copy + Drop + Send + 'static,
 >(
     rt: &R,
@@ -75,10 +77,12 @@ pub fn run<
     clock: &mut C,
     listener: &mut L,
     spawner: &mut Spawner,
+    ports: &mut Q,
 ) -> Ran
 where
     L::In: Drop + Send + 'static,
     L::Out: Drop + Send + 'static,
+    Q::Port: Drop + Send + 'static,
     ensures ran { IsRan (asked_of (map string_bytes words.now)) (record {
       file = F.told files.old;
       journal = J.told logs.old;
@@ -92,15 +96,15 @@ where
     }) result.status result.connection }
     ensures usage { IsUsage (asked_of (map string_bytes words.now)) result.status }
     ensures outside { result.status ≡ Status.Outside → Rose (F.faults files.old) (F.faults files.new) ⊎ (Rose (S.faults input.old) (S.faults input.new) ⊎ Rose (K.faults output.old) (K.faults output.new)) }
-    ensures closed { result.status ≡ Status.Done → ServesAll (asked_of (map string_bytes words.now)) (L.left listener.new) }
-    ensures listener { result.status ≡ Status.Listener → Rose (L.faults listener.old) (L.faults listener.new) ⊎ Rose spawner.old.plan.faults spawner.new.plan.faults }
+    ensures closed { result.status ≡ Status.Done → ServesAll (asked_of (map string_bytes words.now)) (L.left listener.new) (Q.left ports.new) }
+    ensures listener { result.status ≡ Status.Listener → Rose (L.faults listener.old) (L.faults listener.new) ⊎ (Rose spawner.old.plan.faults spawner.new.plan.faults ⊎ Rose (Q.faults ports.old) (Q.faults ports.new)) }
     ensures served { ServesRun (asked_of (map string_bytes words.now)) (J.told logs.old) (F.told files.old) L.left (ends_by L.In.left L.Out.written L.In.faults L.Out.faults)
         (arrivals (change (L.left listener.old) (L.left listener.new)) (change spawner.old.plan.next spawner.new.plan.next)) result.status }
     ensures told { TellsRun (asked_of (map string_bytes words.now)) result.connection (E.written errors.old) (E.written errors.new) (E.faults errors.old) (E.faults errors.new) result.status }
 {
     match read_words(alloc, words) {
         Ok(Asked::Run(words)) => run_words(
-            rt, alloc, &words, files, logs, input, output, errors, clock, listener, spawner,
+            rt, alloc, &words, files, logs, input, output, errors, clock, listener, spawner, ports,
         ),
         Ok(Asked::Help(text)) => print_text(text.as_str(), output, errors),
         Ok(Asked::Version(text)) => print_text(text.as_str(), output, errors),
@@ -120,6 +124,7 @@ fn run_words<
     E: Sink,
     C: Clock + Drop + Send + 'static,
     L: Listener,
+    Q: Ports + Drop + Send + 'static,
     R: Wait + rt::Clock + Threads + Copy + Drop + Send + 'static,
 >(
     rt: &R,
@@ -133,10 +138,12 @@ fn run_words<
     clock: &mut C,
     listener: &mut L,
     spawner: &mut Spawner,
+    ports: &mut Q,
 ) -> Ran
 where
     L::In: Drop + Send + 'static,
     L::Out: Drop + Send + 'static,
+    Q::Port: Drop + Send + 'static,
     requires workers { (1 ≤ words.now.workers) × (words.now.workers ≤ 16) }
     requires connections { 1 ≤ words.now.connections }
     ensures ran { RanBy (said_by words.now) (record {
@@ -150,15 +157,15 @@ where
       write_faults = change (K.faults output.old) (K.faults output.new);
       clock = change (clocked (C.last clock.old) (C.readings clock.old)) (clocked (C.last clock.new) (C.readings clock.new));
     }) result.status result.connection }
-    ensures closed { result.status ≡ Status.Done → ServesAt (said_by words.now).listen (L.left listener.new) }
-    ensures listener { result.status ≡ Status.Listener → Rose (L.faults listener.old) (L.faults listener.new) ⊎ Rose spawner.old.plan.faults spawner.new.plan.faults }
+    ensures closed { result.status ≡ Status.Done → ServesAt (said_by words.now).way (L.left listener.new) (Q.left ports.new) }
+    ensures listener { result.status ≡ Status.Listener → Rose (L.faults listener.old) (L.faults listener.new) ⊎ (Rose spawner.old.plan.faults spawner.new.plan.faults ⊎ Rose (Q.faults ports.old) (Q.faults ports.new)) }
     ensures served { ServesWith (said_by words.now).journal (J.told logs.old) (said_by words.now) (F.told files.old) L.left (ends_by L.In.left L.Out.written L.In.faults L.Out.faults)
         (arrivals (change (L.left listener.old) (L.left listener.new)) (change spawner.old.plan.next spawner.new.plan.next)) result.status }
     ensures told { TellsWith (said_by words.now).journal (said_by words.now) result.connection (E.written errors.old) (E.written errors.new) (E.faults errors.old) (E.faults errors.new) result.status }
 {
     match &words.journal {
         None => run_plain(
-            rt, alloc, words, files, input, output, errors, clock, listener, spawner,
+            rt, alloc, words, files, input, output, errors, clock, listener, spawner, ports,
         ),
         Some(name) => run_kept(
             rt,
@@ -173,6 +180,7 @@ where
             clock,
             listener,
             spawner,
+            ports,
         ),
     }
 }
@@ -185,6 +193,7 @@ fn run_plain<
     E: Sink,
     C: Clock + Drop + Send + 'static,
     L: Listener,
+    Q: Ports + Drop + Send + 'static,
     R: Wait + rt::Clock + Threads + Copy + Drop + Send + 'static,
 >(
     rt: &R,
@@ -197,13 +206,15 @@ fn run_plain<
     clock: &mut C,
     listener: &mut L,
     spawner: &mut Spawner,
+    ports: &mut Q,
 ) -> Ran
 where
     L::In: Drop + Send + 'static,
     L::Out: Drop + Send + 'static,
+    Q::Port: Drop + Send + 'static,
     requires workers { (1 ≤ words.now.workers) × (words.now.workers ≤ 16) }
     requires connections { 1 ≤ words.now.connections }
-    ensures ran { RanMode (said_by words.now).listen (said_by words.now) (record {
+    ensures ran { RanMode (address_in (said_by words.now).way) (said_by words.now) (record {
       file = F.told files.old;
       journal = λ name. None;
       left = change (S.left input.old) (S.left input.new);
@@ -214,11 +225,11 @@ where
       write_faults = change (K.faults output.old) (K.faults output.new);
       clock = change (clocked (C.last clock.old) (C.readings clock.old)) (clocked (C.last clock.new) (C.readings clock.new));
     }) result.status result.connection }
-    ensures closed { result.status ≡ Status.Done → ServesAt (said_by words.now).listen (L.left listener.new) }
-    ensures listener { result.status ≡ Status.Listener → Rose (L.faults listener.old) (L.faults listener.new) ⊎ Rose spawner.old.plan.faults spawner.new.plan.faults }
-    ensures served { ServesBy (said_by words.now).listen (said_by words.now) (F.told files.old) L.left (ends_by L.In.left L.Out.written L.In.faults L.Out.faults)
+    ensures closed { result.status ≡ Status.Done → ServesAt (said_by words.now).way (L.left listener.new) (Q.left ports.new) }
+    ensures listener { result.status ≡ Status.Listener → Rose (L.faults listener.old) (L.faults listener.new) ⊎ (Rose spawner.old.plan.faults spawner.new.plan.faults ⊎ Rose (Q.faults ports.old) (Q.faults ports.new)) }
+    ensures served { ServesBy (said_by words.now).way (said_by words.now) (F.told files.old) L.left (ends_by L.In.left L.Out.written L.In.faults L.Out.faults)
         (arrivals (change (L.left listener.old) (L.left listener.new)) (change spawner.old.plan.next spawner.new.plan.next)) result.status }
-    ensures told { TellsAt (said_by words.now).listen (said_by words.now).users result.connection (E.written errors.old) (E.written errors.new) (E.faults errors.old) (E.faults errors.new) result.status }
+    ensures told { TellsAt (address_in (said_by words.now).way) (said_by words.now).users result.connection (E.written errors.old) (E.written errors.new) (E.faults errors.old) (E.faults errors.new) result.status }
 {
     match &words.mode {
         Mode::Pipe => run_pipe(rt, alloc, words, files, input, output, errors, clock),
@@ -233,6 +244,91 @@ where
             listener,
             spawner,
         )),
+        Mode::Loop(address) => unserved(run_looped(
+            rt,
+            alloc,
+            words,
+            address.as_str(),
+            files,
+            errors,
+            clock,
+            spawner,
+            ports,
+        )),
+    }
+}
+
+/// A run in mode `loop`.
+fn run_looped<
+    F: Files,
+    E: Sink,
+    C: Clock + Drop + Send + 'static,
+    Q: Ports + Drop + Send + 'static,
+    R: Wait + rt::Clock + Threads + Copy + Drop + Send + 'static,
+>(
+    rt: &R,
+    alloc: Global,
+    words: &Words,
+    address: &str,
+    files: &mut F,
+    errors: &mut E,
+    clock: &C,
+    spawner: &mut Spawner,
+    ports: &mut Q,
+) -> Status
+where
+    Q::Port: Drop + Send + 'static,
+    requires workers { (1 ≤ words.now.workers) × (words.now.workers ≤ 16) }
+    ensures cause { IsServerEnd (F.told files.old (said_by words.now).users) (change (F.faults files.old) (F.faults files.new)) result }
+    ensures closed { result ≡ Status.Done → HasNoneLeft (Q.left ports.new) }
+    ensures listener { result ≡ Status.Listener → Rose (Q.faults ports.old) (Q.faults ports.new) }
+    ensures told { TellsServer (said_by words.now).users address.now (E.written errors.old) (E.written errors.new) (E.faults errors.old) (E.faults errors.new) result }
+{
+    match users_told(alloc, words.users.as_str(), files, errors) {
+        Ok(directory) => loop_for(
+            rt, alloc, words, address, directory, errors, clock, spawner, ports,
+        ),
+        Err(status) => status,
+    }
+}
+
+/// Binds the address, and serves by loops for these users the connections that come.
+fn loop_for<
+    E: Sink,
+    C: Clock + Drop + Send + 'static,
+    Q: Ports + Drop + Send + 'static,
+    R: Wait + rt::Clock + Threads + Copy + Drop + Send + 'static,
+>(
+    rt: &R,
+    alloc: Global,
+    words: &Words,
+    address: &str,
+    directory: Directory,
+    errors: &mut E,
+    clock: &C,
+    spawner: &mut Spawner,
+    ports: &mut Q,
+) -> Status
+where
+    Q::Port: Drop + Send + 'static,
+    requires workers { (1 ≤ words.now.workers) × (words.now.workers ≤ 16) }
+    ensures only { IsServerStatus result }
+    ensures closed { result ≡ Status.Done → HasNoneLeft (Q.left ports.new) }
+    ensures listener { result ≡ Status.Listener → Rose (Q.faults ports.old) (Q.faults ports.new) }
+    ensures told { TellsServer (said_by words.now).users address.now (E.written errors.old) (E.written errors.new) (E.faults errors.old) (E.faults errors.new) result }
+{
+    match server_for(alloc, directory, words.workers, words.requests) {
+        Ok((server, pass)) => {
+            let says = b", and keeps nothing: no journal is named\n";
+            loop_on(
+                rt, alloc, server, pass, words, address, says, errors, clock, spawner, ports,
+            )
+        }
+        Err(refused) => {
+            let status = Status::Memory(refused);
+            tell(errors, status, None);
+            status
+        }
     }
 }
 

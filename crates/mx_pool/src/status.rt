@@ -1,9 +1,10 @@
 //! How a run ends.
 ghost use Rattle.std.specs.Prelude.{◌≡◌};
-ghost use Rattle.mx_pool.specs.Runs.{number_of, server_status, status_of};
+ghost use Rattle.mx_pool.specs.Runs.{looped_status, number_of, server_status, status_of};
 
 use crate::serving::Served;
 use mx_ids::Memory;
+use mx_loop::Looped;
 use mx_serve::End;
 
 /// Why a run has no journal.
@@ -76,5 +77,16 @@ pub(crate) fn server_status(served: Served) -> Status
         Served::Closed => Status::Done,
         Served::ListenFailed | Served::StartRefused => Status::Listener,
         Served::Memory(refused) => Status::Memory(refused),
+    }
+}
+
+/// The status of a loop's end.
+pub(crate) fn looped_status(looped: Looped) -> Status
+    ensures { result ≡ looped_status looped }
+{
+    match looped {
+        Looped::Closed => Status::Done,
+        Looped::ListenFailed => Status::Listener,
+        Looped::Memory(refused) => Status::Memory(refused),
     }
 }

@@ -1,4 +1,4 @@
--- An option that has a default and a range has a number of the range after a parse.
+-- An option that has a range has a number of the range after a parse, where it has a default or is given.
 use Rattle.std.proofs.Common.{◌≡◌, ◌∙◌, ◌<◌, ◌≤◌, ℕ, Bool, zero, suc, true, false, List, [], ◌∷◌, length, is_some, Option, Some, None, refl, sym, ap, subst, inl, inr, arith}
 use Rattle.std.specs.List.{All, slice_index_or}
 use Rattle.std.specs.Str.{bytes_eq}
@@ -9,7 +9,7 @@ use Rattle.std.proofs.lemmas.List.Elements.{All-get_or}
 use Rattle.clap.specs.Facts.{Entry, AllowsNone, EntryPasses, HasId, HasIn, HasReading, IsCountArg, IsGroupEntry, PassesArg, ValuesPass, WantsDefault, args_of, groups_of, least_values, parser_of, parser_of_value, unwrap_or_range}
 use Rattle.clap.specs.Built.{IsAuto, IsParsedFrom, NamesNoGroup, SameRules}
 use Rattle.clap.specs.Lexer.{without_minus}
-use Rattle.clap.specs.Matches.{found_of, matched_of, one_text}
+use Rattle.clap.specs.Matches.{first_value, found_of, matched_of, one_text}
 use Rattle.clap.specs.Simple.{IsSimple}
 use Rattle.clap.specs.Texts.{items_of}
 use Rattle.clap.specs.Values.{Accepts, IsSignedIn, read_as, reading_of}
@@ -44,11 +44,12 @@ nonempty : (xs : List (Bor Text)) → (texts xs ≡ [] → ⊥) → 0 < length x
 nonempty [] some = absurd (some refl)
 nonempty (x ∷ xs) some = omega arith
 
--- the first of some values that all pass
+-- the first of some values that all pass, as it is read and as it is
 first_passes : (P : Bor Text → Type 0) (vs : List (Bor Text)) → All P vs → 0 < length vs
     → (v : Bor Text) × (option_map (λ s. read_as WithoutMinus s.now) (slice_get vs 0) ≡ Some (without_minus v.now)) × P v
+    × (option_map (λ s. s.now) (slice_get vs 0) ≡ Some v.now)
 first_passes P [] all lt = absurd (omega arith)
-first_passes P (v ∷ vs) all lt = (v, refl, All-get_or P (v ∷ vs) 0 v (omega arith) all)
+first_passes P (v ∷ vs) all lt = (v, refl, All-get_or P (v ∷ vs) 0 v (omega arith) all, refl)
 
 -- what the built command `c` has under an id: the option `a`, with one value at a use, and a range from zero on
 pub record Only (c : Command) (id : Text) (a : Arg) (low high : ℕ) : Type 0 where
@@ -123,11 +124,13 @@ module _ {c : Command} {id : Text} {a : Arg} {low high : ℕ} (o : Only c id a l
 
   entry_in_range : (e : Entry) → e.0.now ≡ id → EntryPasses c e
       → (t : Text) × (option_map (λ s. read_as e.1.reading s.now) (slice_get e.1.vals.items 0) ≡ Some (without_minus t)) × IsSignedIn (pos low) (pos high) t
+      × (option_map (λ s. s.now) (slice_get e.1.vals.items 0) ≡ Some t)
   entry_in_range e key pass =
       let first = first_passes (λ v. PassesArg c id v.now) e.1.vals.items (all_pass e key pass) (has_value e key pass) in (
         first.0.now,
         ap (λ (r : Reading). option_map (λ s. read_as r s.now) (slice_get e.1.vals.items 0)) (plain_reading e key pass) ∙ first.1,
         in_range first.0.now first.2,
+        first.3,
       )
 
   -- the text of an option that has an entry
@@ -145,7 +148,47 @@ module _ {c : Command} {id : Text} {a : Arg} {low high : ℕ} (o : Only c id a l
     go None found some = absurd cc
     go (Some x) found some = at_entry x found (entry_by_id (EntryPasses c) f.entries.items id x values found)
 
--- an option of the caller's command by its place, whose rule has a default and a range, and whose id is no other's
+  -- the text of an option, if it is given
+  pub text_if_given : (f : Found) → ValuesPass c f → (t : Text) → first_value f id ≡ Some t
+      → (one_text f id ≡ Some (without_minus t)) × IsSignedIn (pos low) (pos high) t
+  text_if_given f values t given = go (matched_of f id) refl where
+    at_entry : (x : MatchedArg) → matched_of f id ≡ Some x → ((e : Entry) × (e.1 ≡ x) × (bytes_eq e.0.now id ≡ true) × EntryPasses c e)
+        → (one_text f id ≡ Some (without_minus t)) × IsSignedIn (pos low) (pos high) t
+    at_entry x found got =
+        let key : got.0.0.now ≡ id = (bytes_eq-Decides got.0.0.now id).0 got.2 in
+        let read = entry_in_range got.0 key got.3 in
+        let plain : first_value f id ≡ Some read.0 = rw (found, sym got.1) read.3 in
+        let same : read.0 ≡ t = cc (plain, given) in
+        subst (λ (u : Text). (one_text f id ≡ Some (without_minus u)) × IsSignedIn (pos low) (pos high) u) same (rw (found, sym got.1) read.1, read.2)
+
+    go : (m : Option MatchedArg) → matched_of f id ≡ m → (one_text f id ≡ Some (without_minus t)) × IsSignedIn (pos low) (pos high) t
+    go None found =
+        let bad = rw found at given in
+        absurd (cc (bad))
+    go (Some x) found = at_entry x found (entry_by_id (EntryPasses c) f.entries.items id x values found)
+
+-- an option of the caller's command by its place, whose rule has a range, and whose id is no other's
+only : (old : Command) (m : ArgMatches) (p : IsParsedFrom old m) → IsSimple old → NamesNoGroup old
+    → (k : ℕ) (d : Arg) → k < length (args_of old) → (r : Rule) → rule_of (slice_index_or (args_of old) k d) ≡ r
+    → r.action ≡ Some Set → r.range ≡ None → (low high : ℕ) → r.parser ≡ Some (vp.Signed (pos low) (pos high))
+    → ((j : ℕ) (e : Arg) → j < length (args_of old)
+    → bytes_eq (slice_index_or (args_of old) j e).id.now (slice_index_or (args_of old) k d).id.now ≡ true → j ≡ k)
+    → ((slice_index_or (args_of old) k d).id.now ≡ [] → ⊥) → (IsAuto (slice_index_or (args_of old) k d) → ⊥)
+    → Only p.built (slice_index_or (args_of old) k d).id.now (slice_index_or (args_of old) k d) low high
+only old m p simple names k d lt r rule set range low high parser unique named own =
+    let a = slice_index_or (args_of old) k d in
+    let one : least_values a ≡ 1 = ap (λ v. (unwrap_or_range v).start_inclusive) (ap (λ (x : Rule). x.range) rule ∙ range) in
+    record {
+      groups = (p.from.same_groups names).1 ∙ simple.groups;
+      named = named;
+      same = same_rules_by_id old m p k d lt unique own;
+      action = ap (λ (x : Rule). x.action) rule ∙ set;
+      delimiter = (simple.args k d lt).delimiter;
+      least = omega (arith, one);
+      parser = ap (λ (x : Rule). x.parser) rule ∙ parser;
+    }
+
+-- where its rule has a default besides, it has a number of the range
 pub ranged : (old : Command) (m : ArgMatches) (p : IsParsedFrom old m) → IsSimple old → NamesNoGroup old
     → (k : ℕ) (d : Arg) → k < length (args_of old) → (r : Rule) → rule_of (slice_index_or (args_of old) k d) ≡ r
     → r.action ≡ Some Set → r.range ≡ None → (r.defaults ≡ [] → ⊥) → (low high : ℕ) → r.parser ≡ Some (vp.Signed (pos low) (pos high))
@@ -155,18 +198,21 @@ pub ranged : (old : Command) (m : ArgMatches) (p : IsParsedFrom old m) → IsSim
     → (t : Text) × (one_text (found_of m) (slice_index_or (args_of old) k d).id.now ≡ Some (without_minus t)) × IsSignedIn (pos low) (pos high) t
 ranged old m p simple names k d lt r rule set range default low high parser unique named own =
     let a = slice_index_or (args_of old) k d in
-    let plain = simple.args k d lt in
     let wants : WantsDefault a =
-    (plain.default_ifs, nonempty (items_of a.default_vals) (λ e. default (sym (ap (λ (x : Rule). x.defaults) rule) ∙ e))) in
+    ((simple.args k d lt).default_ifs, nonempty (items_of a.default_vals) (λ e. default (sym (ap (λ (x : Rule). x.defaults) rule) ∙ e))) in
     let parsed = p.parsed (p.from.globals ∙ simple.globals) in
-    let one : least_values a ≡ 1 = ap (λ v. (unwrap_or_range v).start_inclusive) (ap (λ (x : Rule). x.range) rule ∙ range) in
-    let o : Only p.built a.id.now a low high = record {
-      groups = (p.from.same_groups names).1 ∙ simple.groups;
-      named = named;
-      same = same_rules_by_id old m p k d lt unique own;
-      action = ap (λ (x : Rule). x.action) rule ∙ set;
-      delimiter = plain.delimiter;
-      least = omega (arith, one);
-      parser = ap (λ (x : Rule). x.parser) rule ∙ parser;
-    } in
-    text_in_range o (found_of m) parsed.values (default_present old m p simple.globals k d lt wants)
+    text_in_range (only old m p simple names k d lt r rule set range low high parser unique named own) (found_of m) parsed.values
+    (default_present old m p simple.globals k d lt wants)
+
+-- with a default or with none, a text that is given is a number of the range
+pub ranged_if_given : (old : Command) (m : ArgMatches) (p : IsParsedFrom old m) → IsSimple old → NamesNoGroup old
+    → (k : ℕ) (d : Arg) → k < length (args_of old) → (r : Rule) → rule_of (slice_index_or (args_of old) k d) ≡ r
+    → r.action ≡ Some Set → r.range ≡ None → (low high : ℕ) → r.parser ≡ Some (vp.Signed (pos low) (pos high))
+    → ((j : ℕ) (e : Arg) → j < length (args_of old)
+    → bytes_eq (slice_index_or (args_of old) j e).id.now (slice_index_or (args_of old) k d).id.now ≡ true → j ≡ k)
+    → ((slice_index_or (args_of old) k d).id.now ≡ [] → ⊥) → (IsAuto (slice_index_or (args_of old) k d) → ⊥)
+    → (t : Text) → first_value (found_of m) (slice_index_or (args_of old) k d).id.now ≡ Some t
+    → (one_text (found_of m) (slice_index_or (args_of old) k d).id.now ≡ Some (without_minus t)) × IsSignedIn (pos low) (pos high) t
+ranged_if_given old m p simple names k d lt r rule set range low high parser unique named own =
+    let parsed = p.parsed (p.from.globals ∙ simple.globals) in
+    text_if_given (only old m p simple names k d lt r rule set range low high parser unique named own) (found_of m) parsed.values

@@ -1,6 +1,8 @@
 pub mod Added
 pub mod Bounds
 pub mod Defaults
+pub mod Given
+pub mod LoopWords
 pub mod OneKind
 pub mod Parsed
 pub mod PipeWords

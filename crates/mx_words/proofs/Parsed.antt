@@ -9,7 +9,7 @@ use Rattle.clap.specs.Facts.{args_of}
 use Rattle.clap.specs.Faults.{fault_of, is_simple_and_free}
 use Rattle.clap.specs.Kinds.{HasKind, IsAmong, Kinds}
 use Rattle.clap.specs.Lexer.{without_minus}
-use Rattle.clap.specs.Matches.{found_of, one_text}
+use Rattle.clap.specs.Matches.{first_value, found_of, one_text}
 use Rattle.clap.specs.Simple.{App, HasMatchesOf, IsSimple, app_of, is_ready, is_ready_leaf, is_simple, matches_of}
 use Rattle.clap.specs.Values.{IsSignedIn, kind_of}
 use Rattle.clap.specs.Walk.{Rule, Text, rows_of, rule_of}
@@ -21,7 +21,7 @@ use Rattle.clap.specs.declared.error.kind.ErrorKind.TheVariants as kinds
 use Rattle.clap.specs.declared.parser.matches.ArgMatches.{ArgMatches}
 use Rattle.clap.specs.declared.parser.matches.Found.{Found}
 use Rattle.clap.proofs.SimpleLemmas.{ready_simple, simple_groups}
-use Rattle.mx_words.specs.Matches.{HasNumberUpTo, IsAskedBy, IsParse, IsRunBy}
+use Rattle.mx_words.specs.Matches.{HasNumberIfGiven, HasNumberUpTo, IsAskedBy, IsParse, IsRunBy}
 use Rattle.mx_words.specs.Program.{program, rules}
 use Rattle.mx_words.specs.Words.{IsRead, Refused, Said, asked_by, asked_of, by_kind, by_said, said_of}
 use Rattle.mx_words.specs.declared.words.Asked.{Asked}
@@ -29,7 +29,7 @@ use Rattle.mx_words.specs.declared.words.Asked.TheVariants as asked
 use Rattle.mx_words.specs.declared.words.Words.{Words}
 use Rattle.mx_words.specs.declared.words.WordsFault.{WordsFault}
 use Rattle.mx_words.specs.declared.words.WordsFault.TheVariants as faults
-use Rattle.mx_words.proofs.Defaults.{ranged}
+use Rattle.mx_words.proofs.Defaults.{ranged, ranged_if_given}
 use Rattle.mx_words.proofs.OneKind.{One, one_kind}
 use Rattle.mx_words.proofs.Ranges.{in_range}
 
@@ -39,53 +39,70 @@ rule_at [] k d lt = absurd (omega arith)
 rule_at (x ∷ xs) zero d lt = refl
 rule_at (x ∷ xs) (suc k) d lt = rule_at xs k d (omega arith)
 
-only_workers : (j : ℕ) (r : Rule) → j < 9 → bytes_eq (slice_index_or rules j r).id (codes "workers") ≡ true → j ≡ 3
+only_threads : (j : ℕ) (r : Rule) → j < 10 → bytes_eq (slice_index_or rules j r).id (codes "threads") ≡ true → j ≡ 3
+only_threads zero r lt e = let bad : false ≡ true = e in cc
+only_threads (suc zero) r lt e = let bad : false ≡ true = e in cc
+only_threads (suc (suc zero)) r lt e = let bad : false ≡ true = e in cc
+only_threads (suc (suc (suc zero))) r lt e = refl
+only_threads (suc (suc (suc (suc zero)))) r lt e = let bad : false ≡ true = e in cc
+only_threads (suc (suc (suc (suc (suc zero))))) r lt e = let bad : false ≡ true = e in cc
+only_threads (suc (suc (suc (suc (suc (suc zero)))))) r lt e = let bad : false ≡ true = e in cc
+only_threads (suc (suc (suc (suc (suc (suc (suc zero))))))) r lt e = let bad : false ≡ true = e in cc
+only_threads (suc (suc (suc (suc (suc (suc (suc (suc zero)))))))) r lt e = let bad : false ≡ true = e in cc
+only_threads (suc (suc (suc (suc (suc (suc (suc (suc (suc zero))))))))) r lt e = let bad : false ≡ true = e in cc
+only_threads (suc (suc (suc (suc (suc (suc (suc (suc (suc (suc j)))))))))) r lt e = absurd (omega arith)
+
+only_workers : (j : ℕ) (r : Rule) → j < 10 → bytes_eq (slice_index_or rules j r).id (codes "workers") ≡ true → j ≡ 4
 only_workers zero r lt e = let bad : false ≡ true = e in cc
 only_workers (suc zero) r lt e = let bad : false ≡ true = e in cc
 only_workers (suc (suc zero)) r lt e = let bad : false ≡ true = e in cc
-only_workers (suc (suc (suc zero))) r lt e = refl
-only_workers (suc (suc (suc (suc zero)))) r lt e = let bad : false ≡ true = e in cc
+only_workers (suc (suc (suc zero))) r lt e = let bad : false ≡ true = e in cc
+only_workers (suc (suc (suc (suc zero)))) r lt e = refl
 only_workers (suc (suc (suc (suc (suc zero))))) r lt e = let bad : false ≡ true = e in cc
 only_workers (suc (suc (suc (suc (suc (suc zero)))))) r lt e = let bad : false ≡ true = e in cc
 only_workers (suc (suc (suc (suc (suc (suc (suc zero))))))) r lt e = let bad : false ≡ true = e in cc
 only_workers (suc (suc (suc (suc (suc (suc (suc (suc zero)))))))) r lt e = let bad : false ≡ true = e in cc
-only_workers (suc (suc (suc (suc (suc (suc (suc (suc (suc j))))))))) r lt e = absurd (omega arith)
+only_workers (suc (suc (suc (suc (suc (suc (suc (suc (suc zero))))))))) r lt e = let bad : false ≡ true = e in cc
+only_workers (suc (suc (suc (suc (suc (suc (suc (suc (suc (suc j)))))))))) r lt e = absurd (omega arith)
 
-only_connections : (j : ℕ) (r : Rule) → j < 9 → bytes_eq (slice_index_or rules j r).id (codes "connections") ≡ true → j ≡ 4
+only_connections : (j : ℕ) (r : Rule) → j < 10 → bytes_eq (slice_index_or rules j r).id (codes "connections") ≡ true → j ≡ 5
 only_connections zero r lt e = let bad : false ≡ true = e in cc
 only_connections (suc zero) r lt e = let bad : false ≡ true = e in cc
 only_connections (suc (suc zero)) r lt e = let bad : false ≡ true = e in cc
 only_connections (suc (suc (suc zero))) r lt e = let bad : false ≡ true = e in cc
-only_connections (suc (suc (suc (suc zero)))) r lt e = refl
-only_connections (suc (suc (suc (suc (suc zero))))) r lt e = let bad : false ≡ true = e in cc
+only_connections (suc (suc (suc (suc zero)))) r lt e = let bad : false ≡ true = e in cc
+only_connections (suc (suc (suc (suc (suc zero))))) r lt e = refl
 only_connections (suc (suc (suc (suc (suc (suc zero)))))) r lt e = let bad : false ≡ true = e in cc
 only_connections (suc (suc (suc (suc (suc (suc (suc zero))))))) r lt e = let bad : false ≡ true = e in cc
 only_connections (suc (suc (suc (suc (suc (suc (suc (suc zero)))))))) r lt e = let bad : false ≡ true = e in cc
-only_connections (suc (suc (suc (suc (suc (suc (suc (suc (suc j))))))))) r lt e = absurd (omega arith)
+only_connections (suc (suc (suc (suc (suc (suc (suc (suc (suc zero))))))))) r lt e = let bad : false ≡ true = e in cc
+only_connections (suc (suc (suc (suc (suc (suc (suc (suc (suc (suc j)))))))))) r lt e = absurd (omega arith)
 
-only_requests : (j : ℕ) (r : Rule) → j < 9 → bytes_eq (slice_index_or rules j r).id (codes "requests") ≡ true → j ≡ 5
+only_requests : (j : ℕ) (r : Rule) → j < 10 → bytes_eq (slice_index_or rules j r).id (codes "requests") ≡ true → j ≡ 6
 only_requests zero r lt e = let bad : false ≡ true = e in cc
 only_requests (suc zero) r lt e = let bad : false ≡ true = e in cc
 only_requests (suc (suc zero)) r lt e = let bad : false ≡ true = e in cc
 only_requests (suc (suc (suc zero))) r lt e = let bad : false ≡ true = e in cc
 only_requests (suc (suc (suc (suc zero)))) r lt e = let bad : false ≡ true = e in cc
-only_requests (suc (suc (suc (suc (suc zero))))) r lt e = refl
-only_requests (suc (suc (suc (suc (suc (suc zero)))))) r lt e = let bad : false ≡ true = e in cc
+only_requests (suc (suc (suc (suc (suc zero))))) r lt e = let bad : false ≡ true = e in cc
+only_requests (suc (suc (suc (suc (suc (suc zero)))))) r lt e = refl
 only_requests (suc (suc (suc (suc (suc (suc (suc zero))))))) r lt e = let bad : false ≡ true = e in cc
 only_requests (suc (suc (suc (suc (suc (suc (suc (suc zero)))))))) r lt e = let bad : false ≡ true = e in cc
-only_requests (suc (suc (suc (suc (suc (suc (suc (suc (suc j))))))))) r lt e = absurd (omega arith)
+only_requests (suc (suc (suc (suc (suc (suc (suc (suc (suc zero))))))))) r lt e = let bad : false ≡ true = e in cc
+only_requests (suc (suc (suc (suc (suc (suc (suc (suc (suc (suc j)))))))))) r lt e = absurd (omega arith)
 
-only_idle : (j : ℕ) (r : Rule) → j < 9 → bytes_eq (slice_index_or rules j r).id (codes "idle") ≡ true → j ≡ 6
+only_idle : (j : ℕ) (r : Rule) → j < 10 → bytes_eq (slice_index_or rules j r).id (codes "idle") ≡ true → j ≡ 7
 only_idle zero r lt e = let bad : false ≡ true = e in cc
 only_idle (suc zero) r lt e = let bad : false ≡ true = e in cc
 only_idle (suc (suc zero)) r lt e = let bad : false ≡ true = e in cc
 only_idle (suc (suc (suc zero))) r lt e = let bad : false ≡ true = e in cc
 only_idle (suc (suc (suc (suc zero)))) r lt e = let bad : false ≡ true = e in cc
 only_idle (suc (suc (suc (suc (suc zero))))) r lt e = let bad : false ≡ true = e in cc
-only_idle (suc (suc (suc (suc (suc (suc zero)))))) r lt e = refl
-only_idle (suc (suc (suc (suc (suc (suc (suc zero))))))) r lt e = let bad : false ≡ true = e in cc
+only_idle (suc (suc (suc (suc (suc (suc zero)))))) r lt e = let bad : false ≡ true = e in cc
+only_idle (suc (suc (suc (suc (suc (suc (suc zero))))))) r lt e = refl
 only_idle (suc (suc (suc (suc (suc (suc (suc (suc zero)))))))) r lt e = let bad : false ≡ true = e in cc
-only_idle (suc (suc (suc (suc (suc (suc (suc (suc (suc j))))))))) r lt e = absurd (omega arith)
+only_idle (suc (suc (suc (suc (suc (suc (suc (suc (suc zero))))))))) r lt e = let bad : false ≡ true = e in cc
+only_idle (suc (suc (suc (suc (suc (suc (suc (suc (suc (suc j)))))))))) r lt e = absurd (omega arith)
 
 -- a text with this first byte is no option that building adds
 not_auto : (t : Text) (x : ℕ) → slice_index t 0 ≡ x → (x ≡ 104 → ⊥) → (x ≡ 118 → ⊥) → (t ≡ codes "help") ⊎ (t ≡ codes "version") → ⊥
@@ -98,6 +115,15 @@ number most f id got =
     let read = in_range most got.0 got.2 in
     (got.0, got.1 ∙ ap (λ (t : Text). Some t) read.0, read.1, read.2, read.3)
 
+-- the number of an option that may have none
+number_if_given : (most : ℕ) (f : Found) (id : Text)
+    → ((t : Text) → first_value f id ≡ Some t → (one_text f id ≡ Some (without_minus t)) × IsSignedIn (pos 1) (pos most) t)
+    → HasNumberIfGiven most f id
+number_if_given most f id got t given =
+    let has = got t given in
+    let read = in_range most t has.1 in
+    (has.0 ∙ ap (λ (t : Text). Some t) read.0, read.1, read.2, read.3)
+
 module _ (c : Command) (m : ArgMatches) (p : IsParsedFrom c m) (is : app_of c ≡ program) where
   simple : IsSimple c
   simple = ready_simple c (ap (λ (a : App). is_ready a.top) is) (ap (λ (a : App). list_all is_ready_leaf a.subs) is)
@@ -108,8 +134,8 @@ module _ (c : Command) (m : ArgMatches) (p : IsParsedFrom c m) (is : app_of c �
   rules_are : map rule_of (args_of c) ≡ rules
   rules_are = ap (λ (a : App). a.top.rules) is
 
-  nine : length (args_of c) ≡ 9
-  nine = sym (length-map (args_of c) rule_of) ∙ ap length rules_are
+  ten : length (args_of c) ≡ 10
+  ten = sym (length-map (args_of c) rule_of) ∙ ap length rules_are
 
   at : (k : ℕ) (d : Arg) → k < length (args_of c) → rule_of (slice_index_or (args_of c) k d) ≡ slice_index_or rules k (rule_of d)
   at k d lt = rule_at (args_of c) k d lt ∙ ap (λ rs. slice_index_or rs k (rule_of d)) rules_are
@@ -117,49 +143,59 @@ module _ (c : Command) (m : ArgMatches) (p : IsParsedFrom c m) (is : app_of c �
   id_at : (k : ℕ) (d : Arg) → k < length (args_of c) → (slice_index_or (args_of c) k d).id.now ≡ (slice_index_or rules k (rule_of d)).id
   id_at k d lt = ap (λ (r : Rule). r.id) (at k d lt)
 
+  threads_at : Arg → HasNumberUpTo 16 (found_of m) (codes "threads")
+  threads_at d =
+      let lt : 3 < length (args_of c) = omega (arith, ten) in
+      let id : (slice_index_or (args_of c) 3 d).id.now ≡ codes "threads" = id_at 3 d lt in
+      let got = ranged c m p simple names 3 d lt _ (at 3 d lt) refl refl (λ e. absurd cc) 1 16 refl
+      (λ j e low same. only_threads j (rule_of e) (omega (arith, ten)) (rw (id, id_at j e low) at same))
+      (λ e. let bad : codes "threads" ≡ [] = sym id ∙ e in absurd cc)
+      (not_auto _ 116 (rw id refl) (λ e. omega arith) (λ e. omega arith)) in
+      number 16 (found_of m) (codes "threads") (rw id at got)
+
   workers_at : Arg → HasNumberUpTo 16 (found_of m) (codes "workers")
   workers_at d =
-      let lt : 3 < length (args_of c) = omega (arith, nine) in
-      let id : (slice_index_or (args_of c) 3 d).id.now ≡ codes "workers" = id_at 3 d lt in
-      let got = ranged c m p simple names 3 d lt _ (at 3 d lt) refl refl (λ e. absurd cc) 1 16 refl
-      (λ j e low same. only_workers j (rule_of e) (omega (arith, nine)) (rw (id, id_at j e low) at same))
+      let lt : 4 < length (args_of c) = omega (arith, ten) in
+      let id : (slice_index_or (args_of c) 4 d).id.now ≡ codes "workers" = id_at 4 d lt in
+      let got = ranged c m p simple names 4 d lt _ (at 4 d lt) refl refl (λ e. absurd cc) 1 16 refl
+      (λ j e low same. only_workers j (rule_of e) (omega (arith, ten)) (rw (id, id_at j e low) at same))
       (λ e. let bad : codes "workers" ≡ [] = sym id ∙ e in absurd cc)
       (not_auto _ 119 (rw id refl) (λ e. omega arith) (λ e. omega arith)) in
       number 16 (found_of m) (codes "workers") (rw id at got)
 
-  connections_at : Arg → HasNumberUpTo 1000 (found_of m) (codes "connections")
+  connections_at : Arg → HasNumberIfGiven 50000 (found_of m) (codes "connections")
   connections_at d =
-      let lt : 4 < length (args_of c) = omega (arith, nine) in
-      let id : (slice_index_or (args_of c) 4 d).id.now ≡ codes "connections" = id_at 4 d lt in
-      let got = ranged c m p simple names 4 d lt _ (at 4 d lt) refl refl (λ e. absurd cc) 1 1000 refl
-      (λ j e low same. only_connections j (rule_of e) (omega (arith, nine)) (rw (id, id_at j e low) at same))
+      let lt : 5 < length (args_of c) = omega (arith, ten) in
+      let id : (slice_index_or (args_of c) 5 d).id.now ≡ codes "connections" = id_at 5 d lt in
+      let got = ranged_if_given c m p simple names 5 d lt _ (at 5 d lt) refl refl 1 50000 refl
+      (λ j e low same. only_connections j (rule_of e) (omega (arith, ten)) (rw (id, id_at j e low) at same))
       (λ e. let bad : codes "connections" ≡ [] = sym id ∙ e in absurd cc)
       (not_auto _ 99 (rw id refl) (λ e. omega arith) (λ e. omega arith)) in
-      number 1000 (found_of m) (codes "connections") (rw id at got)
+      number_if_given 50000 (found_of m) (codes "connections") (rw id at got)
 
   requests_at : Arg → HasNumberUpTo 4294967296 (found_of m) (codes "requests")
   requests_at d =
-      let lt : 5 < length (args_of c) = omega (arith, nine) in
-      let id : (slice_index_or (args_of c) 5 d).id.now ≡ codes "requests" = id_at 5 d lt in
-      let got = ranged c m p simple names 5 d lt _ (at 5 d lt) refl refl (λ e. absurd cc) 1 4294967296 refl
-      (λ j e low same. only_requests j (rule_of e) (omega (arith, nine)) (rw (id, id_at j e low) at same))
+      let lt : 6 < length (args_of c) = omega (arith, ten) in
+      let id : (slice_index_or (args_of c) 6 d).id.now ≡ codes "requests" = id_at 6 d lt in
+      let got = ranged c m p simple names 6 d lt _ (at 6 d lt) refl refl (λ e. absurd cc) 1 4294967296 refl
+      (λ j e low same. only_requests j (rule_of e) (omega (arith, ten)) (rw (id, id_at j e low) at same))
       (λ e. let bad : codes "requests" ≡ [] = sym id ∙ e in absurd cc)
       (not_auto _ 114 (rw id refl) (λ e. omega arith) (λ e. omega arith)) in
       number 4294967296 (found_of m) (codes "requests") (rw id at got)
 
   idle_at : Arg → HasNumberUpTo 86400 (found_of m) (codes "idle")
   idle_at d =
-      let lt : 6 < length (args_of c) = omega (arith, nine) in
-      let id : (slice_index_or (args_of c) 6 d).id.now ≡ codes "idle" = id_at 6 d lt in
-      let got = ranged c m p simple names 6 d lt _ (at 6 d lt) refl refl (λ e. absurd cc) 1 86400 refl
-      (λ j e low same. only_idle j (rule_of e) (omega (arith, nine)) (rw (id, id_at j e low) at same))
+      let lt : 7 < length (args_of c) = omega (arith, ten) in
+      let id : (slice_index_or (args_of c) 7 d).id.now ≡ codes "idle" = id_at 7 d lt in
+      let got = ranged c m p simple names 7 d lt _ (at 7 d lt) refl refl (λ e. absurd cc) 1 86400 refl
+      (λ j e low same. only_idle j (rule_of e) (omega (arith, ten)) (rw (id, id_at j e low) at same))
       (λ e. let bad : codes "idle" ≡ [] = sym id ∙ e in absurd cc)
       (not_auto _ 105 (rw id refl) (λ e. omega arith) (λ e. omega arith)) in
       number 86400 (found_of m) (codes "idle") (rw id at got)
 
   some_arg : Arg
-  some_arg = go (args_of c) nine where
-    go : (xs : List Arg) → length xs ≡ 9 → Arg
+  some_arg = go (args_of c) ten where
+    go : (xs : List Arg) → length xs ≡ 10 → Arg
     go [] e = absurd cc
     go (x ∷ xs) e = x
 
@@ -168,7 +204,13 @@ module _ (c : Command) (m : ArgMatches) (p : IsParsedFrom c m) (is : app_of c �
   parsed words accepted matches = record {
     accepted = ap (λ (a : App). fault_of a words) (sym is) ∙ accepted (ap is_simple_and_free is);
     rows = (matches (ap is_simple is)).0 ∙ ap (λ (a : App). matches_of a words) is;
-    numbers = record { workers = workers_at some_arg; connections = connections_at some_arg; requests = requests_at some_arg; idle = idle_at some_arg };
+    numbers = record {
+      threads = threads_at some_arg;
+      workers = workers_at some_arg;
+      connections = connections_at some_arg;
+      requests = requests_at some_arg;
+      idle = idle_at some_arg;
+    };
   }
 
 -- another kind than these two is a refusal

@@ -7,15 +7,15 @@ use Rattle.clap.specs.Walk.{Text}
 use Rattle.clap.proofs.OnLiterals.{clap_on_literals}
 use Rattle.mx_words.specs.Words.{Help, Says, Version, asked_of, pipe_said, pipe_words}
 
-no_dashes : (file : Text) → starts_with_minus file ≡ false → bytes_eq file (45 ∷ 45 ∷ []) ≡ false
+pub no_dashes : (file : Text) → starts_with_minus file ≡ false → bytes_eq file (45 ∷ 45 ∷ []) ≡ false
 no_dashes [] bare = refl
 no_dashes (x ∷ xs) bare = rw bare refl
 
-no_long : (file : Text) → starts_with_minus file ≡ false → long_of file ≡ None
+pub no_long : (file : Text) → starts_with_minus file ≡ false → long_of file ≡ None
 no_long [] bare = refl
 no_long (x ∷ xs) bare = rw bare refl
 
-no_short : (file : Text) → starts_with_minus file ≡ false → short_of file ≡ None
+pub no_short : (file : Text) → starts_with_minus file ≡ false → short_of file ≡ None
 no_short [] bare = refl
 no_short (x ∷ xs) bare = rw bare refl
 

@@ -1,5 +1,5 @@
 -- The command that `clap` reads the words by.
-use Rattle.std.specs.Prelude.{ℤ, Bool, pos, true, false, Some, [], ◌∷◌, List, codes}
+use Rattle.std.specs.Prelude.{ℤ, Bool, pos, true, false, Some, [], ◌∷◌, ◌++◌, List, codes}
 use Rattle.clap.specs.Words.{App, Rule, Text, new_app, new_rule}
 use Rattle.clap.specs.declared.builder.action.ArgAction.TheVariants.{Set, SetTrue}
 use Rattle.clap.specs.declared.builder.value_parser.ValueParser.TheVariants as parsers
@@ -23,21 +23,38 @@ number_rule name most otherwise = record (new_rule name) {
   value_names = 1;
 }
 
+-- an option `--NAME N` with a number of 1 to `most`, and none where it isn't given
+abbrev pub free_number_rule : Text → ℤ → Rule
+free_number_rule name most = record (new_rule name) {
+  long = Some name;
+  action = Some Set;
+  parser = Some (parsers.Signed (pos 1) most);
+  value_names = 1;
+}
+
 -- a flag `--NAME`
 abbrev pub flag_rule : Text → Rule
 flag_rule name = record (new_rule name) { long = Some name; action = Some SetTrue }
 
+-- the options that say how the program serves
+abbrev pub mode_rules : List Rule
+mode_rules = text_rule (codes "users") true ∷ text_rule (codes "mode") true ∷ text_rule (codes "listen") false ∷ []
+
+-- the options of numbers
+abbrev pub bound_rules : List Rule
+bound_rules = number_rule (codes "threads") (pos 16) (codes "1")
+    ∷ number_rule (codes "workers") (pos 16) (codes "1")
+    ∷ free_number_rule (codes "connections") (pos 50000)
+    ∷ number_rule (codes "requests") (pos 4294967296) (codes "1000")
+    ∷ number_rule (codes "idle") (pos 86400) (codes "60") ∷ []
+
 -- the options of the program
 abbrev pub rules : List Rule
-rules = text_rule (codes "users") true
-    ∷ text_rule (codes "mode") true
-    ∷ text_rule (codes "listen") false
-    ∷ number_rule (codes "workers") (pos 16) (codes "1")
-    ∷ number_rule (codes "connections") (pos 1000) (codes "64")
-    ∷ number_rule (codes "requests") (pos 4294967296) (codes "1000")
-    ∷ number_rule (codes "idle") (pos 86400) (codes "60")
-    ∷ flag_rule (codes "until-eof")
-    ∷ text_rule (codes "journal") false ∷ []
+rules = mode_rules ++ bound_rules ++ flag_rule (codes "until-eof") ∷ text_rule (codes "journal") false ∷ []
+
+-- the command with these options
+abbrev pub with_options : List Rule → App
+with_options options = record bare { top = record bare.top { rules = options } }
 
 abbrev pub program : App
-program = record bare { top = record bare.top { rules = rules } }
+program = with_options rules

@@ -2,17 +2,26 @@
 ghost use Rattle.std.specs.Prelude.{◌≡◌, codes, option_map};
 ghost use Rattle.std.specs.Result.{result_map_both};
 ghost use Rattle.clap.specs.Words.{first_of, found_of, one_of, rows_of};
-ghost use Rattle.mx_words.specs.Matches.{HasNumber, HasNumbers, said_by_values, why_of};
-ghost use Rattle.mx_words.specs.Words.{is_set, number_in, said_of, way_of, with_address, without_address};
+ghost use Rattle.mx_words.specs.Matches.{HasNumber, HasNumberIfGiven, HasNumbers, said_by_values, way_at, why_of};
+ghost use Rattle.mx_words.specs.Words.{connections_of, is_set, most_connections, number_in, said_of, too_many, usual_connections};
+ghost use Rattle.mx_words.specs.Words.{way_of, with_address, without_address};
 
 use clap::ArgMatches;
+
+/// A mode with its address, which is a text of the words themselves.
+#[derive(Clone, Copy)]
+pub(crate) enum ModeAt<'a> {
+    Pipe,
+    Serve(&'a str),
+    Loop(&'a str),
+}
 
 /// What the words of a run say, as texts of the words themselves.
 #[derive(Clone, Copy)]
 pub(crate) struct Values<'a> {
     pub users: &'a str,
-    /// The address of mode `serve`; mode `pipe` has none.
-    pub listen: Option<&'a str>,
+    pub mode: ModeAt<'a>,
+    pub threads: u8,
     pub workers: u8,
     pub connections: u64,
     pub requests: u64,
@@ -29,7 +38,8 @@ pub(crate) struct Wrong<'a> {
     pub word: &'a str,
 }
 
-/// What the matches say; or why they make no run: the mode is none of the two, `pipe` has an address, or `serve` has none.
+/// What the matches say; or why they make no run: the mode is none of the three, `pipe` has an address, another has none, or there are more
+/// connections than the mode takes.
 pub(crate) fn read_matches<'a>(matches: &ArgMatches<'a>) -> Result<Values<'a>, Wrong<'a>>
     requires { HasNumbers (found_of matches.now) }
     ensures { result_map_both said_by_values why_of result ≡ said_of (rows_of (found_of matches.now)) }
@@ -40,12 +50,14 @@ pub(crate) fn read_matches<'a>(matches: &ArgMatches<'a>) -> Result<Values<'a>, W
     let Some(mode) = text(matches, "mode") else {
         return Err(only("--mode is missing"));
     };
-    let listen = way(mode, text(matches, "listen"))?;
+    let mode = way(mode, text(matches, "listen"))?;
+    let connections = connections(matches, mode)?;
     Ok(Values {
         users,
-        listen,
+        mode,
+        threads: small_number(matches, "threads"),
         workers: small_number(matches, "workers"),
-        connections: number(matches, "connections"),
+        connections,
         requests: number(matches, "requests"),
         idle: number(matches, "idle"),
         until_eof: is_set(text(matches, "until-eof")),
@@ -53,22 +65,24 @@ pub(crate) fn read_matches<'a>(matches: &ArgMatches<'a>) -> Result<Values<'a>, W
     })
 }
 
-/// Where the program listens, where the mode is `serve` with an address or `pipe` with none; else why that makes no run.
-fn way<'a>(mode: &'a str, listen: Option<&'a str>) -> Result<Option<&'a str>, Wrong<'a>>
-    ensures { result_map_both (option_map (λ s. s.now)) why_of result ≡ way_of mode.entry.now (option_map (λ s. s.now) listen.entry) }
+/// The mode that this word and the address make, if there is one; else why that makes no run.
+fn way<'a>(mode: &'a str, listen: Option<&'a str>) -> Result<ModeAt<'a>, Wrong<'a>>
+    ensures { result_map_both way_at why_of result ≡ way_of mode.entry.now (option_map (λ s. s.now) listen.entry) }
 {
     let serves = mode == "serve";
     match listen {
         Some(address) => {
             if serves {
-                Ok(listen)
+                Ok(ModeAt::Serve(address))
+            } else if mode == "loop" {
+                Ok(ModeAt::Loop(address))
             } else {
                 Err(beside_address(mode, address))
             }
         }
         None => {
             if mode == "pipe" {
-                Ok(None)
+                Ok(ModeAt::Pipe)
             } else {
                 Err(without_address(mode))
             }
@@ -76,7 +90,60 @@ fn way<'a>(mode: &'a str, listen: Option<&'a str>) -> Result<Option<&'a str>, Wr
     }
 }
 
-/// Why a mode other than `serve` makes no run with this address.
+/// The connections at once: the number of the words, or the usual one of the mode; or why the number is too high for the mode.
+fn connections<'a>(matches: &ArgMatches<'a>, mode: ModeAt<'a>) -> Result<u64, Wrong<'a>>
+    requires { HasNumberIfGiven 50000 (found_of matches.now) (codes "connections") }
+    ensures { result_map_both (λ n. n) why_of result
+        ≡ connections_of (way_at mode.entry) (first_of (codes "connections") (rows_of (found_of matches.now))) }
+{
+    let Some(word) = text(matches, "connections") else {
+        return Ok(usual_connections(mode));
+    };
+    let given = number(matches, "connections");
+    if most_connections(mode) < given {
+        Err(Wrong {
+            says: too_many(mode),
+            word,
+        })
+    } else {
+        Ok(given)
+    }
+}
+
+/// The connections of a mode where the words give no number of them.
+fn usual_connections(mode: ModeAt) -> u64
+    ensures { result ≡ usual_connections (way_at mode.entry) }
+{
+    match mode {
+        ModeAt::Pipe => 64,
+        ModeAt::Serve(_) => 64,
+        ModeAt::Loop(_) => 10_000,
+    }
+}
+
+/// The most connections of a mode.
+fn most_connections(mode: ModeAt) -> u64
+    ensures { result ≡ most_connections (way_at mode.entry) }
+{
+    match mode {
+        ModeAt::Pipe => 1000,
+        ModeAt::Serve(_) => 1000,
+        ModeAt::Loop(_) => 50_000,
+    }
+}
+
+/// What is told of more connections than a mode takes, before the word that gives their number.
+fn too_many<'a>(mode: ModeAt) -> &'a str
+    ensures { result.now ≡ too_many (way_at mode.entry) }
+{
+    match mode {
+        ModeAt::Pipe => "mode pipe takes at most 1000 connections: ",
+        ModeAt::Serve(_) => "mode serve takes at most 1000 connections: ",
+        ModeAt::Loop(_) => "mode loop takes at most 50000 connections: ",
+    }
+}
+
+/// Why a mode other than `serve` and `loop` makes no run with this address.
 fn beside_address<'a>(mode: &'a str, address: &'a str) -> Wrong<'a>
     ensures { why_of result ≡ with_address mode.entry.now address.entry.now }
 {
@@ -86,7 +153,7 @@ fn beside_address<'a>(mode: &'a str, address: &'a str) -> Wrong<'a>
             word: address,
         }
     } else {
-        neither(mode)
+        unknown(mode)
     }
 }
 
@@ -96,18 +163,20 @@ fn without_address<'a>(mode: &'a str) -> Wrong<'a>
 {
     if mode == "serve" {
         only("mode serve needs --listen ADDRESS")
+    } else if mode == "loop" {
+        only("mode loop needs --listen ADDRESS")
     } else {
-        neither(mode)
+        unknown(mode)
     }
 }
 
-/// A mode that is none of the two.
-fn neither<'a>(mode: &'a str) -> Wrong<'a>
-    ensures says { result.says.now ≡ codes "the mode is neither pipe nor serve: " }
+/// A mode that is none of the three.
+fn unknown<'a>(mode: &'a str) -> Wrong<'a>
+    ensures says { result.says.now ≡ codes "the mode is none of pipe, serve and loop: " }
     ensures word { result.word.now ≡ mode.entry.now }
 {
     Wrong {
-        says: "the mode is neither pipe nor serve: ",
+        says: "the mode is none of pipe, serve and loop: ",
         word: mode,
     }
 }

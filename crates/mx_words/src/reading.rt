@@ -1,25 +1,34 @@
 //! Reading the words of the command line.
 ghost use Rattle.std.specs.Prelude.{◌≡◌, IfOk, map, option_map, string_bytes};
 ghost use Rattle.clap.specs.Words.{found_of, kind_of, rows_of};
-ghost use Rattle.mx_words.specs.Matches.{HasNumbers, IsAskedBy, IsRunBy, said_by_values, why_of};
-ghost use Rattle.mx_words.specs.Words.{AreWithin, IfRun, IsRead, asked_of, journal_of, said_by, said_of};
+ghost use Rattle.mx_words.specs.Matches.{HasNumbers, IsAskedBy, IsRunBy, said_by_values, way_at, why_of};
+ghost use Rattle.mx_words.specs.Words.{AreWithin, IfRun, IsRead, asked_of, journal_of, said_by, said_of, way_by};
 
-use crate::matches::{Values, Wrong, read_matches};
+use crate::matches::{ModeAt, Values, Wrong, read_matches};
 use crate::program::program;
 use crate::words::{Asked, Mode, Words, WordsFault};
 use clap::ArgMatches;
 use clap::error::{Error, ErrorKind};
 use std::alloc::{AllocError, Global};
 
-/// Reads the words of the command line, those after the program's name: `--users FILE`, `--mode pipe` or `--mode serve` (both needed),
-/// `--listen ADDRESS`, `--workers N` (1 to 16, 1 where it isn't given), `--connections N` (1 to 1,000, 64 where it isn't given),
-/// `--requests N` (1 to 4,294,967,296, 1,000 where it isn't given), `--idle N` (1 to 86,400, 60 where it isn't given), `--until-eof` and `--journal FILE`, in any order. Mode
-/// `serve` needs `--listen`, and mode `pipe` refuses it. No option is given twice. A value may stand after `=` in its option's word, and one that begins with `-` and has more stands only
-/// there. A number is decimal digits, before which a plus or zeros may stand. `--help` or `-h` asks for the help, and `--version` or `-V`
-/// for the version, where no word before it is refused.
+/// Reads the words of the command line, those after the program's name, in any order:
 ///
-/// `Usage` comes exactly where `clap` refuses the words for another cause than memory, the mode is none of the two, or the condition on
-/// `--listen` fails. Its text is exact for the last two; what `clap` says isn't told. `Memory` comes only for want of memory.
+/// - `--users FILE` and `--mode pipe`, `--mode serve` or `--mode loop`, both needed;
+/// - `--listen ADDRESS`, which the modes `serve` and `loop` need and mode `pipe` refuses;
+/// - `--threads N`, 1 to 16, and `--workers N`, 1 to 16, each 1 where it isn't given;
+/// - `--connections N`: in modes `pipe` and `serve` 1 to 1,000, 64 where it isn't given, and in mode `loop` 1 to 50,000, 10,000 where it
+///   isn't given;
+/// - `--requests N`, 1 to 4,294,967,296, 1,000 where it isn't given, and `--idle N`, 1 to 86,400, 60 where it isn't given;
+/// - `--until-eof`;
+/// - `--journal FILE`.
+///
+/// No option is given twice. A value may stand after `=` in its option's word, and one that begins with `-` and has more stands only there.
+/// A number is decimal digits, before which a plus or zeros may stand. `--help` or `-h` asks for the help, and `--version` or `-V` for the
+/// version, where no word before it is refused.
+///
+/// `Usage` comes exactly where `clap` refuses the words for another cause than memory, the mode is none of the three, or the condition on
+/// `--listen` or that on `--connections` fails; of these the first in this order is told. Its text is exact for the last three; what `clap`
+/// says isn't told. `Memory` comes only for want of memory.
 #[tactic(auto, unfolding(crate::specs::Words::asked_of))]
 pub fn read_words(alloc: Global, words: &[String]) -> Result<Asked, WordsFault>
     ensures read { IsRead result (asked_of (map string_bytes words.now)) }
@@ -48,14 +57,12 @@ fn owned(alloc: Global, values: Values) -> Result<Words, AllocError>
     ensures { IfOk result (λ w. said_by w ≡ said_by_values values.entry) }
 {
     let users = String::from_str(alloc, values.users)?;
-    let mode = match values.listen {
-        Some(address) => Mode::Serve(String::from_str(alloc, address)?),
-        None => Mode::Pipe,
-    };
+    let mode = own_mode(alloc, values.mode)?;
     let journal = journal_of(alloc, values.journal)?;
     Ok(Words {
         users,
         mode,
+        threads: values.threads,
         workers: values.workers,
         connections: values.connections,
         requests: values.requests,
@@ -63,6 +70,17 @@ fn owned(alloc: Global, values: Values) -> Result<Words, AllocError>
         until_eof: values.until_eof,
         journal,
     })
+}
+
+/// A mode with a text of its own as its address.
+fn own_mode(alloc: Global, mode: ModeAt) -> Result<Mode, AllocError>
+    ensures { IfOk result (λ own. way_by own ≡ way_at mode.entry) }
+{
+    match mode {
+        ModeAt::Pipe => Ok(Mode::Pipe),
+        ModeAt::Serve(address) => Ok(Mode::Serve(String::from_str(alloc, address)?)),
+        ModeAt::Loop(address) => Ok(Mode::Loop(String::from_str(alloc, address)?)),
+    }
 }
 
 /// The name of a journal as a text of its own.

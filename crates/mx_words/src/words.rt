@@ -9,6 +9,8 @@ pub enum Mode {
     Pipe,
     /// Connections at this address, of which nothing is told but that it is a text.
     Serve(String),
+    /// Connections at this address, by sessions that few threads step.
+    Loop(String),
 }
 
 /// The words of a run, read.
@@ -17,9 +19,11 @@ pub struct Words {
     /// The name of the users file.
     pub users: String,
     pub mode: Mode,
+    /// Threads of mode `loop`, each with a loop of its own, 1 to 16.
+    pub threads: u8,
     /// Writers a stream, 1 to 16.
     pub workers: u8,
-    /// Connections at once, 1 to 1,000.
+    /// Connections at once, 1 to 1,000; in mode `loop` 1 to 50,000.
     pub connections: u64,
     /// Requests that a connection is served, 1 to 4,294,967,296.
     pub requests: u64,

@@ -1,7 +1,7 @@
 //! The program: the sync engine of a Matrix homeserver for local users (Client-Server API v1.11).
 //!
 //! `main` has no decision of its own. It makes the objects of the system (the files, the journals, the standard streams, the
-//! clock, a TCP listener and a spawner of threads), reads the words of the command line, and hands all of them to `run` of
+//! clock, a TCP listener, ports over TCP and a spawner of threads), reads the words of the command line, and hands all of them to `run` of
 //! `mx_pool`, whose contract says what the run does. The status of the process is the number of the status of the
 //! run, 0 to 7; a line to standard error says why it isn't 0.
 //!
@@ -13,7 +13,7 @@
 
 use mx_ids::Memory;
 use mx_log::HostLogs;
-use mx_outside::{HostClock, HostFiles, Spawner, StdErr, StdIn, StdOut, TcpAccept};
+use mx_outside::{HostClock, HostFiles, Spawner, StdErr, StdIn, StdOut, TcpAccept, TcpPorts};
 use mx_pool::{Status, run, tell};
 use std::alloc::AllocError;
 use std::env;
@@ -36,6 +36,7 @@ fn main(rt: HostRuntime) -> ExitCode {
     let mut output = StdOut::new(rt.stdout());
     let mut clock = HostClock::new(rt);
     let mut listener = TcpAccept::new(rt, rt.alloc(), rt.stdin());
+    let mut ports = TcpPorts::new(rt.alloc(), rt);
     let ran = run(
         &rt,
         rt.alloc(),
@@ -48,6 +49,7 @@ fn main(rt: HostRuntime) -> ExitCode {
         &mut clock,
         &mut listener,
         &mut spawner,
+        &mut ports,
     );
     ExitCode::from(ran.status.number())
 }

@@ -1,5 +1,5 @@
 //! A client that goes away while its sync waits: the connection ends, and its seat serves the next one.
-use crate::make::{NEVER, USERS, files, sink, words};
+use crate::make::{NEVER, USERS, files, no_ports, sink, words};
 use crate::servers::status_by;
 use crate::sessions::read_table;
 use crate::silence;
@@ -129,6 +129,7 @@ fn status_on<R: Abort + Wait + rt::Clock + Threads + Copy + Drop + Send + 'stati
     let pairs: Vec<(MemSource, MemSink)> = Vec::new(alloc);
     let mut listener = MemListener::new(pairs, Vec::new(alloc));
     let mut spawner = Spawner::in_caller(Vec::new(alloc));
+    let mut ports = no_ports(alloc);
     let ran = run(
         rt,
         alloc,
@@ -141,9 +142,11 @@ fn status_on<R: Abort + Wait + rt::Clock + Threads + Copy + Drop + Send + 'stati
         clock,
         &mut listener,
         &mut spawner,
+        &mut ports,
     );
     let status = ran.status.number();
     drop(ran);
+    drop(ports);
     drop(spawner);
     drop(listener);
     drop(logs);

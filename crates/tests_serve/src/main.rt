@@ -22,6 +22,8 @@ mod journals;
 #[cfg(test)]
 mod leaving;
 #[cfg(test)]
+mod loops;
+#[cfg(test)]
 mod make;
 #[cfg(test)]
 mod meeting;
@@ -51,6 +53,8 @@ mod tables;
 mod user_data;
 #[cfg(test)]
 mod user_tables;
+#[cfg(test)]
+mod whole_port;
 #[cfg(test)]
 mod whole_sink;
 #[cfg(test)]

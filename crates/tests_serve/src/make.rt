@@ -1,7 +1,9 @@
 //! Runs of the program over sources, sinks and files in memory, and the bytes of answers.
 use mx_ids::Memory;
 use mx_log::MemLogs;
-use mx_outside::{MemFile, MemFiles, MemListener, MemSink, MemSource, Spawner, StepClock};
+use mx_outside::{
+    MemFile, MemFiles, MemListener, MemPort, MemPorts, MemSink, MemSource, Spawner, StepClock,
+};
 use mx_pool::run;
 use std::alloc::Global;
 use std::process::Abort;
@@ -130,6 +132,11 @@ pub fn status_of<R: Abort + Wait + rt::Clock + Threads + Copy + Drop + Send + 's
     Ok(status)
 }
 
+/// Ports of which none comes.
+pub fn no_ports(alloc: Global) -> MemPorts<MemPort> {
+    MemPorts::new(Vec::new(alloc), Vec::new(alloc), Vec::new(alloc))
+}
+
 /// The status of a run with these words, over these files, this journal and this input.
 fn status_on<R: Abort + Wait + rt::Clock + Threads + Copy + Drop + Send + 'static>(
     rt: &R,
@@ -145,6 +152,7 @@ fn status_on<R: Abort + Wait + rt::Clock + Threads + Copy + Drop + Send + 'stati
     let pairs: Vec<(MemSource, MemSink)> = Vec::new(alloc);
     let mut listener = MemListener::new(pairs, Vec::new(alloc));
     let mut spawner = Spawner::in_caller(Vec::new(alloc));
+    let mut ports = no_ports(alloc);
     let ran = run(
         rt,
         alloc,
@@ -157,9 +165,11 @@ fn status_on<R: Abort + Wait + rt::Clock + Threads + Copy + Drop + Send + 'stati
         &mut clock,
         &mut listener,
         &mut spawner,
+        &mut ports,
     );
     let status = ran.status.number();
     drop(ran);
+    drop(ports);
     drop(spawner);
     drop(listener);
     status

@@ -15,7 +15,7 @@ fn other_words_end_a_run(rt: HostRuntime) -> Result<(), Fail> {
         mode: "pipes",
         ..usual_case("")
     };
-    let told = "mxsync: usage: the mode is neither pipe nor serve: pipes\n";
+    let told = "mxsync: usage: the mode is none of pipe, serve and loop: pipes\n";
     expect(&rt, rt.alloc(), &case, 2, "", told)?;
     Ok(())
 }

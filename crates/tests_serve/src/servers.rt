@@ -1,5 +1,5 @@
 //! Runs in mode `serve`, over listeners in memory.
-use crate::make::{NEVER, USERS, files, sink};
+use crate::make::{NEVER, USERS, files, no_ports, sink};
 use crate::sessions::read_table;
 use crate::whole_sink::WholeSink;
 use mx_ids::Memory;
@@ -128,6 +128,7 @@ where
     let mut output = sink(alloc, NEVER)?;
     let mut input = MemSource::new(Vec::new(alloc), 1, Vec::new(alloc));
     let mut clock = StepClock::new(1000, 1);
+    let mut ports = no_ports(alloc);
     let ran = run(
         rt,
         alloc,
@@ -140,6 +141,7 @@ where
         &mut clock,
         listener,
         spawner,
+        &mut ports,
     );
     let status = if ran.connection.is_some() {
         100
@@ -147,6 +149,7 @@ where
         ran.status.number()
     };
     drop(ran);
+    drop(ports);
     drop(input);
     drop(output);
     drop(logs);

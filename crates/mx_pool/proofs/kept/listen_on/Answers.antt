@@ -1,9 +1,10 @@
-use Rattle.std.proofs.Common.{◌∙◌, refl}
+use Rattle.std.proofs.Common.{◌∙◌, codes, refl}
 use Rattle.mx_serve.specs.OfEngine.Shown.{stores_of}
 use Rattle.mx_outside.specs.Causes.{Rose}
 use Rattle.mx_pool.specs.Connections.{change, ends_by, service_of}
 use Rattle.mx_pool.specs.Serving.{HasNoneLeft}
-use Rattle.mx_pool.proofs.Journaled.{from_bound, from_none, unbound_told}
+use Rattle.mx_pool.proofs.Journaled.{from_bound, from_none}
+use Rattle.mx_pool.proofs.Loops.{unbound_loops}
 use Rattle.mx_pool.proofs.Outcomes.{unbound_done, unbound_status}
 use Rattle.mx_pool.proofs.Runs.{rose_from, server_closed, server_is, server_rose}
 use Rattle.mx_pool.proofs.kept.listen_on.Goals as goal
@@ -16,7 +17,7 @@ returns-in-Failed-clause-closed g c = λ done. absurd (unbound_done c.tell_about
 
 pub returns-in-Failed-clause-told : goal.returns-in-Failed-clause-told
 returns-in-Failed-clause-told g c =
-    unbound_told c.args.address.now (g.E.Sink.written c.args.errors.now) (g.E.Sink.written c.tell_about.new.errors) (g.E.Sink.faults c.args.errors.now) (g.E.Sink.faults c.tell_about.new.errors)
+    unbound_loops (codes "\n") c.args.address.now (g.E.Sink.written c.args.errors.now) (g.E.Sink.written c.tell_about.new.errors) (g.E.Sink.faults c.args.errors.now) (g.E.Sink.faults c.tell_about.new.errors)
     c.tell_about.result c.tell_about.ensures.status c.tell_about.ensures.told
 
 pub returns-in-Failed-clause-served : goal.returns-in-Failed-clause-served
