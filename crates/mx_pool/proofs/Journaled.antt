@@ -25,7 +25,7 @@ use Rattle.mx_serve.specs.declared.ended.End.TheVariants as end
 use Rattle.mx_serve.specs.declared.ended.Ended.{Ended}
 use Rattle.mx_pool.specs.Connections.{Change, Clocked, Ends, Service, change}
 use Rattle.mx_pool.specs.Lines.{Tells, line_of, shown}
-use Rattle.mx_pool.specs.Runs.{Arrivals, Beginning, HasNone, HasRisen, HasServedFrom, HasUsers, IsCause, IsIdle, IsKeptCause, IsKeptEnd, RanModeOn, RanPipeOn, ServesAt, ServesFrom, ServesOn, TellsListened, TellsNone, TellsOn, TellsPipeOn, TellsUnmade, Untouched, World, arrivals, kept_stops, server_status, service_with, site_for, status_for, status_of}
+use Rattle.mx_pool.specs.Runs.{Arrivals, Beginning, HasNone, HasRisen, HasServedFrom, HasUsers, IsCause, IsIdle, IsKeptCause, IsKeptEnd, ListenerRose, RanModeOn, RanPipeOn, ServesAt, ServesFrom, ServesOn, TellsListened, TellsNone, TellsOn, TellsPipeOn, TellsUnmade, Untouched, World, arrivals, kept_stops, server_status, service_with, site_for, status_for, status_of}
 use Rattle.mx_pool.specs.Serving.{HasNoneLeft, HasServed, IsServerStatus}
 use Rattle.mx_pool.specs.declared.serving.Served.{Served}
 use Rattle.mx_pool.specs.declared.status.JournalFault.TheVariants as lacks
@@ -244,6 +244,12 @@ closed_on way address left ports at h = subst (λ w. ServesAt w left ports) at h
 
 pub closed_loops : {P Q : Type 0} (way : Way) (address : List ℕ) (left : Option (List P)) (ports : Option (List Q)) → Loop address ≡ way → HasNoneLeft ports → ServesAt way left ports
 closed_loops way address left ports at h = subst (λ w. ServesAt w left ports) at h
+
+pub rose_on : (way : Way) (address : List ℕ) (listener spawner ports : Change ℕ) → Serve address ≡ way → HasRisen listener ⊎ HasRisen spawner → ListenerRose way listener spawner ports
+rose_on way address listener spawner ports at h = subst (λ w. ListenerRose w listener spawner ports) at h
+
+pub rose_loops : (way : Way) (address : List ℕ) (listener spawner ports : Change ℕ) → Loop address ≡ way → HasRisen ports → ListenerRose way listener spawner ports
+rose_loops way address listener spawner ports at h = subst (λ w. ListenerRose w listener spawner ports) at h
 
 pub told_server_on : (listen : Option (List ℕ)) (address file name : List ℕ) (c : Option (Ended × EnginePass)) (old new : Option (List ℕ)) (f h : ℕ) (s t : Status) → Some address ≡ listen → t ≡ s
     → TellsListened address old new f h s → TellsOn listen file name c old new f h t

@@ -259,6 +259,17 @@ abbrev pub ServesAll : {P Q : Type 0} → Meaning → Option (List P) → Option
 ServesAll (Says said) left ports = ServesAt said.way left ports
 ServesAll other left ports = ⊤
 
+-- status `Listener` comes only where a count of faults rose: in mode `serve` that of the listener or of the spawner, in mode `loop` that of the
+-- ports, and in mode `pipe` never
+abbrev pub ListenerRose : Way → Change ℕ → Change ℕ → Change ℕ → Type 0
+ListenerRose Pipe listener spawner ports = ⊥
+ListenerRose (Serve address) listener spawner ports = HasRisen listener ⊎ HasRisen spawner
+ListenerRose (Loop address) listener spawner ports = HasRisen ports
+
+abbrev pub RunsListenerRose : Meaning → Change ℕ → Change ℕ → Change ℕ → Type 0
+RunsListenerRose (Says said) listener spawner ports = ListenerRose said.way listener spawner ports
+RunsListenerRose other listener spawner ports = ⊥
+
 -- what a server of so many writers and requests is, for these users, by the bounds of its streams
 abbrev pub service_with : Stops → Users → ℕ → ℕ → Service
 service_with stops users workers limit = record { site = site_for users workers; stops = stops; limit = limit }

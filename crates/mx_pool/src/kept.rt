@@ -7,7 +7,7 @@ ghost use Rattle.mx_serve.specs.OfEngine.Shown.{Ties, all_started, made_of, site
 ghost use Rattle.mx_serve.specs.OfEngine.Written.{Made};
 ghost use Rattle.mx_pool.specs.Connections.{change, clocked, ends_by, service_of};
 ghost use Rattle.mx_pool.specs.Lines.{Tells, line_of};
-ghost use Rattle.mx_pool.specs.Runs.{HasNone, HasServedFrom, HasUsers, IsKeptCause, RanModeOn, ServesAt, ServesFrom, ServesOn, TellsListened, TellsNone, TellsOn, TellsUnmade, arrivals, kept_stops, site_for, status_for};
+ghost use Rattle.mx_pool.specs.Runs.{HasNone, HasServedFrom, HasUsers, IsKeptCause, ListenerRose, RanModeOn, ServesAt, ServesFrom, ServesOn, TellsListened, TellsNone, TellsOn, TellsUnmade, arrivals, kept_stops, site_for, status_for};
 ghost use Rattle.mx_pool.specs.Serving.{HasNoneLeft, IsServerStatus};
 ghost use Rattle.mx_restore.specs.Restored.{Begins};
 ghost use Rattle.mx_words.specs.Words.{address_in, said_by};
@@ -72,7 +72,7 @@ where
       clock = change (clocked (C.last clock.old) (C.readings clock.old)) (clocked (C.last clock.new) (C.readings clock.new));
     }) result.status result.connection }
     ensures closed { result.status ≡ Status.Done → ServesAt (said_by words.now).way (L.left listener.new) (Q.left ports.new) }
-    ensures listener { result.status ≡ Status.Listener → Rose (L.faults listener.old) (L.faults listener.new) ⊎ (Rose spawner.old.plan.faults spawner.new.plan.faults ⊎ Rose (Q.faults ports.old) (Q.faults ports.new)) }
+    ensures listener { result.status ≡ Status.Listener → ListenerRose (said_by words.now).way (change (L.faults listener.old) (L.faults listener.new)) (change spawner.old.plan.faults spawner.new.plan.faults) (change (Q.faults ports.old) (Q.faults ports.new)) }
     ensures served { ServesOn (said_by words.now).way (J.told logs.old name.now) (said_by words.now) (F.told files.old) L.left (ends_by L.In.left L.Out.written L.In.faults L.Out.faults)
         (arrivals (change (L.left listener.old) (L.left listener.new)) (change spawner.old.plan.next spawner.new.plan.next)) result.status }
     ensures told { TellsOn (address_in (said_by words.now).way) (said_by words.now).users name.now result.connection (E.written errors.old) (E.written errors.new) (E.faults errors.old) (E.faults errors.new) result.status }

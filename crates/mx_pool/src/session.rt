@@ -3,7 +3,7 @@ ghost use Rattle.std.specs.Prelude.{◌≡◌, ◌⊎◌, ◌≤◌, None, Some,
 ghost use Rattle.mx_outside.specs.Causes.{Rose};
 ghost use Rattle.mx_pool.specs.Lines.{Tells, line_of, shown};
 ghost use Rattle.mx_pool.specs.Connections.{change, clocked, ends_by};
-ghost use Rattle.mx_pool.specs.Runs.{HasUsers, IsCause, IsRan, IsServerEnd, IsUsage, Prints, RanBy, RanMode, RanPipe, ServesAll, ServesAt, ServesBy, ServesFile, ServesFor, ServesRun, ServesWith, TellsAt, TellsPipe, TellsRun, TellsServer, TellsWith, arrivals};
+ghost use Rattle.mx_pool.specs.Runs.{HasUsers, IsCause, IsRan, IsServerEnd, IsUsage, ListenerRose, Prints, RanBy, RanMode, RanPipe, RunsListenerRose, ServesAll, ServesAt, ServesBy, ServesFile, ServesFor, ServesRun, ServesWith, TellsAt, TellsPipe, TellsRun, TellsServer, TellsWith, arrivals};
 ghost use Rattle.mx_pool.specs.Serving.{HasNoneLeft, IsServerStatus};
 ghost use Rattle.mx_words.specs.Words.{address_in, asked_of, said_by};
 
@@ -49,8 +49,8 @@ pub struct Ran {
 ///
 /// `Usage` comes exactly where the words aren't of their form; `UsersFile` where the file breaks its form or has
 /// more than 1,048,576 bytes; `Outside` only where a count of faults of `files`, `input` or `output` rose; a `Journal` that is `Busy` or
-/// `Failed` only where that of `logs` did; `Listener` only where that of `listener` or of `spawner` rose. In mode `serve` `Done` comes only where the
-/// listener, where it tells its pairs, has none left. Then all
+/// `Failed` only where that of `logs` did; `Listener` in mode `serve` only where that of `listener` or of `spawner` rose, in mode `loop` only where that of
+/// `ports` did, and never else. In mode `serve` `Done` comes only where the listener, where it tells its pairs, has none left. Then all
 /// connections that were begun were served, as `serve` promises, for the users of the file; at another status that, or none was begun.
 /// `connection` is none in mode `serve` and for the help and the version, and else only for `Usage` and `UsersFile`, for a fault of
 /// `files`, and for want of memory: then nothing was taken from `input`, and nothing but the help or the version was written to `output`.
@@ -97,7 +97,7 @@ where
     ensures usage { IsUsage (asked_of (map string_bytes words.now)) result.status }
     ensures outside { result.status ≡ Status.Outside → Rose (F.faults files.old) (F.faults files.new) ⊎ (Rose (S.faults input.old) (S.faults input.new) ⊎ Rose (K.faults output.old) (K.faults output.new)) }
     ensures closed { result.status ≡ Status.Done → ServesAll (asked_of (map string_bytes words.now)) (L.left listener.new) (Q.left ports.new) }
-    ensures listener { result.status ≡ Status.Listener → Rose (L.faults listener.old) (L.faults listener.new) ⊎ (Rose spawner.old.plan.faults spawner.new.plan.faults ⊎ Rose (Q.faults ports.old) (Q.faults ports.new)) }
+    ensures listener { result.status ≡ Status.Listener → RunsListenerRose (asked_of (map string_bytes words.now)) (change (L.faults listener.old) (L.faults listener.new)) (change spawner.old.plan.faults spawner.new.plan.faults) (change (Q.faults ports.old) (Q.faults ports.new)) }
     ensures served { ServesRun (asked_of (map string_bytes words.now)) (J.told logs.old) (F.told files.old) L.left (ends_by L.In.left L.Out.written L.In.faults L.Out.faults)
         (arrivals (change (L.left listener.old) (L.left listener.new)) (change spawner.old.plan.next spawner.new.plan.next)) result.status }
     ensures told { TellsRun (asked_of (map string_bytes words.now)) result.connection (E.written errors.old) (E.written errors.new) (E.faults errors.old) (E.faults errors.new) result.status }
@@ -158,7 +158,7 @@ where
       clock = change (clocked (C.last clock.old) (C.readings clock.old)) (clocked (C.last clock.new) (C.readings clock.new));
     }) result.status result.connection }
     ensures closed { result.status ≡ Status.Done → ServesAt (said_by words.now).way (L.left listener.new) (Q.left ports.new) }
-    ensures listener { result.status ≡ Status.Listener → Rose (L.faults listener.old) (L.faults listener.new) ⊎ (Rose spawner.old.plan.faults spawner.new.plan.faults ⊎ Rose (Q.faults ports.old) (Q.faults ports.new)) }
+    ensures listener { result.status ≡ Status.Listener → ListenerRose (said_by words.now).way (change (L.faults listener.old) (L.faults listener.new)) (change spawner.old.plan.faults spawner.new.plan.faults) (change (Q.faults ports.old) (Q.faults ports.new)) }
     ensures served { ServesWith (said_by words.now).journal (J.told logs.old) (said_by words.now) (F.told files.old) L.left (ends_by L.In.left L.Out.written L.In.faults L.Out.faults)
         (arrivals (change (L.left listener.old) (L.left listener.new)) (change spawner.old.plan.next spawner.new.plan.next)) result.status }
     ensures told { TellsWith (said_by words.now).journal (said_by words.now) result.connection (E.written errors.old) (E.written errors.new) (E.faults errors.old) (E.faults errors.new) result.status }
@@ -226,7 +226,7 @@ where
       clock = change (clocked (C.last clock.old) (C.readings clock.old)) (clocked (C.last clock.new) (C.readings clock.new));
     }) result.status result.connection }
     ensures closed { result.status ≡ Status.Done → ServesAt (said_by words.now).way (L.left listener.new) (Q.left ports.new) }
-    ensures listener { result.status ≡ Status.Listener → Rose (L.faults listener.old) (L.faults listener.new) ⊎ (Rose spawner.old.plan.faults spawner.new.plan.faults ⊎ Rose (Q.faults ports.old) (Q.faults ports.new)) }
+    ensures listener { result.status ≡ Status.Listener → ListenerRose (said_by words.now).way (change (L.faults listener.old) (L.faults listener.new)) (change spawner.old.plan.faults spawner.new.plan.faults) (change (Q.faults ports.old) (Q.faults ports.new)) }
     ensures served { ServesBy (said_by words.now).way (said_by words.now) (F.told files.old) L.left (ends_by L.In.left L.Out.written L.In.faults L.Out.faults)
         (arrivals (change (L.left listener.old) (L.left listener.new)) (change spawner.old.plan.next spawner.new.plan.next)) result.status }
     ensures told { TellsAt (address_in (said_by words.now).way) (said_by words.now).users result.connection (E.written errors.old) (E.written errors.new) (E.faults errors.old) (E.faults errors.new) result.status }

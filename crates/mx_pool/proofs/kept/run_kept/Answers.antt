@@ -10,7 +10,7 @@ use Rattle.mx_pool.specs.Connections.{change, clocked, ends_by, service_of}
 use Rattle.mx_pool.specs.Lines.{Tells, line_of}
 use Rattle.mx_pool.specs.Runs.{TellsListened, arrivals}
 use Rattle.mx_pool.proofs.Runs.{on_loops, on_none}
-use Rattle.mx_pool.proofs.Journaled.{closed_loops, closed_on, idle_on, kept_done, kept_listener, on_address, ran_pipe_on, ran_server_on, ran_unmade, served_listener, service_on, told_pipe_on, told_server_on, told_unmade}
+use Rattle.mx_pool.proofs.Journaled.{closed_loops, closed_on, idle_on, kept_done, kept_listener, on_address, ran_pipe_on, ran_server_on, ran_unmade, rose_loops, rose_on, served_listener, service_on, told_pipe_on, told_server_on, told_unmade}
 use Rattle.mx_pool.proofs.kept.run_kept.Goals as goal
 
 -- ---- no engine
@@ -77,6 +77,12 @@ returns-in-Serve-clause-closed g c = λ done.
     closed_on (way_by c.args.words.now.mode) c.as_str.result.now (g.L.Listener.left c.listen_on.new.listener) (g.Q.Ports.left c.args.ports.now) (ap Serve c.as_str.ensures.value ∙ sym (ap way_by c.in-Serve.is))
     (c.listen_on.ensures.closed (sym c.unserved-in-Serve.ensures.status ∙ done))
 
+pub returns-in-Serve-clause-listener : goal.returns-in-Serve-clause-listener
+returns-in-Serve-clause-listener g c = λ is.
+    rose_on (way_by c.args.words.now.mode) c.as_str.result.now (change (g.L.Listener.faults c.args.listener.now) (g.L.Listener.faults c.listen_on.new.listener))
+    (change c.args.spawner.now.plan.faults c.listen_on.new.spawner.plan.faults) (change (g.Q.Ports.faults c.args.ports.now) (g.Q.Ports.faults c.args.ports.now)) (ap Serve c.as_str.ensures.value ∙ sym (ap way_by c.in-Serve.is))
+    (c.listen_on.ensures.listener (sym c.unserved-in-Serve.ensures.status ∙ is))
+
 pub returns-in-Serve-clause-served : goal.returns-in-Serve-clause-served
 returns-in-Serve-clause-served g c =
     let server = c.in-Ok.made.0 in
@@ -114,6 +120,12 @@ pub returns-in-Loop-clause-closed : goal.returns-in-Loop-clause-closed
 returns-in-Loop-clause-closed g c = λ done.
     closed_loops (way_by c.args.words.now.mode) c.as_str-in-Loop.result.now (g.L.Listener.left c.args.listener.now) (g.Q.Ports.left c.loop_on.new.ports) (ap Loop c.as_str-in-Loop.ensures.value ∙ sym (ap way_by c.in-Loop.is))
     (c.loop_on.ensures.closed (sym c.unserved-in-Loop.ensures.status ∙ done))
+
+pub returns-in-Loop-clause-listener : goal.returns-in-Loop-clause-listener
+returns-in-Loop-clause-listener g c = λ is.
+    rose_loops (way_by c.args.words.now.mode) c.as_str-in-Loop.result.now (change (g.L.Listener.faults c.args.listener.now) (g.L.Listener.faults c.args.listener.now))
+    (change c.args.spawner.now.plan.faults c.loop_on.new.spawner.plan.faults) (change (g.Q.Ports.faults c.args.ports.now) (g.Q.Ports.faults c.loop_on.new.ports)) (ap Loop c.as_str-in-Loop.ensures.value ∙ sym (ap way_by c.in-Loop.is))
+    (c.loop_on.ensures.listener (sym c.unserved-in-Loop.ensures.status ∙ is))
 
 pub returns-in-Loop-clause-served : goal.returns-in-Loop-clause-served
 returns-in-Loop-clause-served g c =
