@@ -34,6 +34,7 @@ mod port;
 mod ports;
 mod readings;
 mod running;
+mod shares;
 mod sink;
 mod source;
 mod spawner;

@@ -4,6 +4,7 @@ ghost use Rattle.std.specs.Prelude.{◌≡◌, None};
 use crate::listener::Listened;
 use crate::port::{Port, PutNow, TookNow};
 use crate::ports::{AcceptedNow, Ports};
+use crate::shares::{Place, Shares};
 use mio::net::{TcpListener, TcpStream};
 use mio::{Events, Interest, Poll, Token};
 use std::alloc::Global;
@@ -20,10 +21,18 @@ const MOST_READY: usize = 1024;
 /// The listener's number among those that are told of.
 const LISTENER: usize = usize::MAX;
 
+/// So many calls of `accept_now`, with a rest between them, leave a connection to the other handles of the listener.
+const MOST_LEFT: u8 = 4;
+
+/// A rest lasts so many milliseconds at most while a connection is left to other handles.
+const LEFT_REST: u64 = 1;
+
 /// A connection over TCP. Nothing is told of its bytes.
 #[derive(Drop)]
 pub struct TcpPort {
     stream: TcpStream,
+    /// None where there was no memory for it.
+    _place: Option<Place>,
     faults: u64,
     waits: u64,
 }
@@ -38,12 +47,13 @@ impl Model for TcpPort {
 
 impl TcpPort {
     /// A connection without a fault so far. What is put is sent at once where the system can be told so.
-    fn new(stream: TcpStream) -> TcpPort
+    fn new(stream: TcpStream, place: Option<Place>) -> TcpPort
         ensures { result ≡ (0, 0) }
     {
         let _ = stream.set_nodelay(true);
         TcpPort {
             stream,
+            _place: place,
             faults: 0,
             waits: 0,
         }
@@ -96,10 +106,33 @@ impl Port for TcpPort {
     }
 }
 
+/// Whether connections wait at the listener.
+#[derive(Clone, Copy, PartialEq, Eq)]
+enum Waiting {
+    /// None waits, and the system tells of the next one.
+    None,
+    /// One may wait.
+    One,
+    /// One may wait, which is left to the listener's other handles for so many calls more.
+    Left(u8),
+}
+
+impl Waiting {
+    /// The same once the system told of a connection.
+    fn told(self) -> Waiting {
+        match self {
+            Waiting::None => Waiting::One,
+            Waiting::One | Waiting::Left(_) => self,
+        }
+    }
+}
+
 /// What waits for sockets: a listener that is bound, the system's set of sockets, and the numbers of those that were found ready.
 #[derive(Drop)]
 struct Bound {
     listener: TcpListener,
+    shares: Shares,
+    waiting: Waiting,
     poll: Poll,
     events: Events,
     ready: Vec<usize>,
@@ -111,16 +144,23 @@ impl Bound {
         net: &R,
         address: &str,
     ) -> io::Result<Bound> {
-        Bound::of(alloc, net, bind(net, address)?)
+        Bound::of(alloc, net, bind(net, address)?, Shares::new(alloc)?)
     }
 
     /// What waits for a listener's sockets.
-    fn of<R: Net>(alloc: Global, net: &R, mut listener: TcpListener) -> io::Result<Bound> {
+    fn of<R: Net>(
+        alloc: Global,
+        net: &R,
+        mut listener: TcpListener,
+        shares: Shares,
+    ) -> io::Result<Bound> {
         let poll = Poll::new(net)?;
         poll.registry()
             .register(&mut listener, Token(LISTENER), Interest::READABLE)?;
         Ok(Bound {
             listener,
+            shares,
+            waiting: Waiting::One,
             poll,
             events: Events::with_capacity(alloc, MOST_READY)?,
             ready: Vec::with_capacity(alloc, MOST_READY)?,
@@ -130,11 +170,39 @@ impl Bound {
     /// The same for another thread: the listener is the same, the set of sockets another.
     fn share<R: Net>(&self, alloc: Global, net: &R) -> io::Result<Bound> {
         let same = self.listener.as_fd().try_clone_to_owned()?;
-        Bound::of(alloc, net, TcpListener::from(same))
+        let shares = self.shares.beside(alloc)?;
+        Bound::of(alloc, net, TcpListener::from(same), shares)
+    }
+
+    /// The next connection, if the system gives one, and it isn't left to the listener's other handles.
+    fn next_port(&mut self) -> Option<TcpPort> {
+        let more = match self.waiting {
+            Waiting::None => return None,
+            Waiting::One => MOST_LEFT,
+            Waiting::Left(more) => more,
+        };
+        if more > 0 && self.shares.has_more_than_mean() {
+            self.waiting = Waiting::Left(more - 1);
+            return None;
+        }
+        self.waiting = Waiting::One;
+        match self.listener.accept() {
+            Ok((stream, _)) => Some(TcpPort::new(stream, self.shares.place().ok())),
+            Err(fault) => {
+                if fault.kind() == ErrorKind::WouldBlock {
+                    self.waiting = Waiting::None;
+                }
+                None
+            }
+        }
     }
 
     fn rest(&mut self, ms: u64) {
         self.ready.clear();
+        let ms = match self.waiting {
+            Waiting::Left(_) => ms.min(LEFT_REST),
+            Waiting::None | Waiting::One => ms,
+        };
         if self
             .poll
             .poll(&mut self.events, Some(Duration::from_millis(ms)))
@@ -143,7 +211,12 @@ impl Bound {
             return;
         }
         for event in self.events.iter() {
-            let _ = self.ready.push(event.token().0);
+            match event.token() {
+                Token(LISTENER) => self.waiting = self.waiting.told(),
+                Token(number) => {
+                    let _ = self.ready.push(number);
+                }
+            }
         }
     }
 }
@@ -161,7 +234,9 @@ fn bind<R: Net>(net: &R, address: &str) -> io::Result<TcpListener> {
 }
 
 /// Connections to an address over TCP, with a rest that ends when a socket is ready. Nothing is told of them. A connection that the
-/// system couldn't give is passed over: each error of `accept_now` is one of `NotYet`.
+/// system couldn't give is passed over: each error of `accept_now` is one of `NotYet`, and after `NotYet` a connection is told of by
+/// a rest alone. Handles of one listener take about as many connections each: one that has more than the mean leaves a connection to
+/// the others for four rests of at most a millisecond, and takes it if it is still there.
 #[derive(Drop)]
 pub struct TcpPorts<R> {
     net: R,
@@ -198,12 +273,6 @@ impl<R: Net<Listener = net::TcpListener, Stream = net::TcpStream>> TcpPorts<R> {
     pub fn local_addr(&self) -> Option<SocketAddr> {
         self.bound.as_ref()?.listener.local_addr().ok()
     }
-
-    /// The next connection, if the listener is bound and the system gives one.
-    fn next_port(&self) -> Option<TcpPort> {
-        let (stream, _) = self.bound.as_ref()?.listener.accept().ok()?;
-        Some(TcpPort::new(stream))
-    }
 }
 
 impl<R: Net<Listener = net::TcpListener, Stream = net::TcpStream> + Copy> Ports for TcpPorts<R> {
@@ -231,11 +300,11 @@ impl<R: Net<Listener = net::TcpListener, Stream = net::TcpStream> + Copy> Ports 
 
     /// Before the first `Done` of `listen` it fails.
     fn accept_now(&mut self) -> AcceptedNow<TcpPort> {
-        if self.bound.is_none() {
+        let Some(bound) = &mut self.bound else {
             self.faults = self.faults.saturating_add(1);
             return AcceptedNow::Failed;
-        }
-        match self.next_port() {
+        };
+        match bound.next_port() {
             Some(port) => AcceptedNow::One(port),
             None => {
                 self.waits = self.waits.saturating_add(1);

@@ -55,6 +55,18 @@ where
     }
 }
 
+/// The next connection, behind a rest of a tenth of a second at most.
+fn admit<Q: Ports>(ports: &mut Q) -> Option<Q::Port>
+where
+    Q::Port: Drop,
+{
+    ports.rest(100);
+    match ports.accept_now() {
+        AcceptedNow::One(port) => Some(port),
+        _ => None,
+    }
+}
+
 fn echo<P: Port>(port: &mut P) -> Came {
     let mut into = [0u8; 4];
     if let TookNow::Got(count) = port.take_now(&mut into)
@@ -140,4 +152,24 @@ fn tcp_ports_are_given_once_they_are_bound(rt: HostRuntime) {
     assert_eq!(rt; back, *b"abc\0");
     drop(client);
     drop(ports);
+}
+
+#[test]
+fn a_handle_leaves_what_is_above_the_mean_to_the_others(rt: HostRuntime) {
+    let mut ports = TcpPorts::new(rt.alloc(), rt);
+    assert_eq!(rt; bind(&mut ports, "127.0.0.1:0"), Listened::Done);
+    let mut others = ports.share().expect(&rt, "another handle");
+    let address = ports.local_addr().expect(&rt, "a bound address");
+    let _clients = [(); 4].map(|_| TcpStream::connect(&rt, address).expect(&rt, "a connection"));
+    let one = admit(&mut ports);
+    assert!(rt; one.is_some() && admit(&mut ports).is_none());
+    let two = admit(&mut others);
+    assert!(rt; two.is_some() && admit(&mut others).is_none());
+    let three = admit(&mut ports);
+    assert!(rt; three.is_some());
+    'left: for _ in 0..4 {
+        assert!(rt; admit(&mut ports).is_none());
+    }
+    let four = admit(&mut ports);
+    assert!(rt; four.is_some());
 }
