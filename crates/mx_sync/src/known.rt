@@ -56,7 +56,7 @@ impl Known {
     {
         Known {
             snapshot: Snapshot::new(alloc),
-            tallies: Tallies::new(alloc),
+            tallies: Tallies::new(),
         }
     }
 
@@ -84,7 +84,7 @@ impl Known {
         rules_last();
         let grown = self.snapshot.events.advance(alloc, events);
         if grown.is_err() {
-            self.tallies = Tallies::new(alloc);
+            self.tallies = Tallies::new();
         }
         grown
     }
@@ -110,7 +110,7 @@ impl Known {
         rules_last();
         let grown = self.snapshot.receipts.advance(alloc, receipts);
         if grown.is_err() {
-            self.tallies = Tallies::new(alloc);
+            self.tallies = Tallies::new();
         }
         grown
     }
@@ -132,7 +132,7 @@ impl Known {
         rules_last();
         let grown = self.snapshot.accounts.advance(alloc, accounts);
         if grown.is_err() {
-            self.tallies = Tallies::new(alloc);
+            self.tallies = Tallies::new();
         }
         grown
     }

@@ -23,6 +23,7 @@ mod beginning;
 mod counting;
 mod decider;
 mod entering;
+mod held;
 mod joined;
 mod kept;
 mod laws;
@@ -36,6 +37,8 @@ mod running;
 mod same_rules;
 mod stored_rules;
 mod tallies;
+mod tally_cache;
+mod tally_key;
 mod unread_counts;
 mod window;
 

@@ -5,25 +5,22 @@ ghost use Rattle.mx_snapshot.specs.declared.snapshot.Snapshot.{Snapshot};
 ghost use Rattle.mx_unread.specs.Standing.{Stand};
 
 use crate::read_rules::ReadRules;
-use crate::running::Tally;
-use mx_ids::Seq;
-use std::alloc::Global;
+use crate::tally_cache::TallyCache;
 
 /// Tallies of the rooms that were counted last, with the push rules that were read last.
 #[derive(Drop)]
 pub struct Tallies {
-    /// The one that was used last stands at the end.
-    pub(crate) list: Seq<Tally>,
+    pub(crate) list: TallyCache,
     pub(crate) rules: Option<ReadRules>,
 }
 
 impl Tallies {
     /// No tally, and no rules. They stand for every snapshot. Takes no memory.
-    pub fn new(alloc: Global) -> Tallies
+    pub fn new() -> Tallies
         ensures { (s : Snapshot) → Stand s result }
     {
         Tallies {
-            list: Seq::new(alloc),
+            list: TallyCache::new(),
             rules: None,
         }
     }
