@@ -20,14 +20,17 @@ use Rattle.mx_core.proofs.Reached.{reached_start, reached_front, reached_writers
 use Rattle.mx_lanes.specs.Held.{Held, StandsFor, empty}
 use Rattle.mx_lanes.proofs.Stands.{stands_empty}
 use Rattle.mx_front.specs.declared.board.Key.{Key}
+use Rattle.mx_front.specs.declared.view.Right.{Right}
+use Rattle.mx_front.specs.declared.view.Right.TheVariants.{Nothing}
 use Rattle.mx_front.specs.declared.view.Role.{Role}
 use Rattle.mx_front.specs.declared.view.Role.TheVariants.{Reader, Maker, Pen}
 use Rattle.mx_front.specs.declared.view.Turn.TheVariants.{Has}
 use Rattle.mx_front.specs.declared.view.View.{View}
-use Rattle.mx_front.specs.World.{Slot, Core, World, words_of, Good, Plays, Knows, Ruled, opening_view}
-use Rattle.mx_front.specs.Told.{Sat, block_at, claimed, came, looked, glanced, read_next, drew, put, left, learned, maker_after, pen_after, next_maker, new_pen, reader_of, both, hearing, spent}
+use Rattle.mx_front.specs.World.{Slot, Core, World, words_of, Good, Holds, PenOf, Plays, Knows, Ruled, opening_view}
+use Rattle.mx_front.specs.Told.{Sat, block_at, can_store, claimed, came, looked, glanced, read_next, drew, put, left, learned, maker_after, pen_after, next_maker, new_pen, reader_of, shared, sharing, sharer_of, lending, lent, both, borrowing, hearing, spent}
 use Rattle.mx_front.proofs.Worlds.{change, change_here, change_else, begins_longer, begins_shorter}
 use Rattle.mx_front.specs.Laws.{SeesOneHistory, Grows, StepsGrow}
+use Rattle.mx_front.proofs.Rights.{alone_after, alone_at, alone_sees, given, holds_joined, holds_lent, holds_on, holds_other, holds_shared, none_else}
 use Rattle.mx_front.proofs.Goes.{Goes, pen_is, few_drawn, plays_on, claims, comes, looks, glances, reads, learns}
 use Rattle.mx_front.proofs.Moves.{draws, puts, leaves}
 
@@ -47,10 +50,17 @@ view_all {V} P vs id w mine others j x e = ⊎_elim (λ (t : (j ≡ id) × (w �
 abbrev opening_world : {I : Type 0} → Key → World I
 opening_world key = record {
   line = record { ticket = 0; serving = 0; slot = maybe.some (Some (empty key.writers)); ticket_of = λ t. 0 };
-  core = record { state = start key.writers (2 ^ 48); pen_of = λ k. 0; maker = 0; made = 0; over = λ k. false; space = λ k. 0 };
+  core = record { state = start key.writers (2 ^ 48); pen_of = λ k. 0; maker = 0; made = 0; over = λ k. false; space = λ k. 0; alone = Some 0 };
 }
 
+-- the world in which another seat alone may store
+abbrev with_alone : {I : Type 0} → World I → Option ℕ → World I
+with_alone w o = record w { core = record w.core { alone = o } }
+
 module _ {I : Type 0} (law : Law I) (key : Key) where
+  same_pen : (w : World I) (o : Option ℕ) (j : ℕ) (x : View I) (i : ℕ) → PenOf key w.core j x.own x.block x.reserve x.read x.fresh i → PenOf key (record w.core { alone = o }) j x.own x.block x.reserve x.read x.fresh i
+  same_pen w o j x i p = record { made = p.made; seat = p.seat; own_is = p.own_is; block = p.block; space = p.space; within = p.within; value = p.value }
+
   allowed : (slots id : ℕ) (v : View I) (c : List (ℕ × Slot I)) (i : ℕ) (f : ℕ → ℕ) (told : ℕ → Sat I → Type 0)
       → ((w : World I) → Good law key w → Knows key w id v → Goes law key w id c i (f (get_or (words_of w) i 0)) (told (get_or (words_of w) i 0)))
       → Grows law key slots id (v, c) i f told
@@ -96,14 +106,14 @@ module _ {I : Type 0} (law : Law I) (key : Key) where
   draws_grow slots id n pk m who free fresh below pos small space =
       allowed slots id m.0 m.1 2 (λ x. (x + n) % 2 ^ 64) (drew (step slots 2 n 0 maybe.none) m) (λ w. draws law key slots n pk w id m.0 m.1 who free fresh below pos small space)
 
-  pub puts_grow : (slots id t n : ℕ) (m : Sat I) (x : Stored I) (b : Held I) → m.1 ≡ (0, Some b) ∷ [] → m.0.turn ≡ Has t → m.0.who ≡ Pen x.writer
+  pub puts_grow : (slots id t n : ℕ) (m : Sat I) (x : Stored I) (b : Held I) → m.1 ≡ (0, Some b) ∷ [] → m.0.turn ≡ Has t → m.0.who ≡ Pen x.writer → can_store m.0.right ≡ true
       → m.0.block ≡ block_at x.first (length x.items) → law x.writer m.0.own x.first x.items ≡ true → StandsFor (m.0.all ++ x ∷ []) b → n ≡ length m.0.all + 1
       → length b.spare ≡ length m.0.spares → get_or b.spare x.writer 0 + length x.items ≡ get_or m.0.spares x.writer 0 → ((i : ℕ) → i ≢ x.writer → get_or b.spare i 0 ≡ get_or m.0.spares i 0)
       → Grows law key slots id m 3 (λ _. n) (λ _. put (step slots 3 n 0 maybe.none) m n)
-  puts_grow slots id t n m x b hand turn who block lawful stands count lanes spent others =
+  puts_grow slots id t n m x b hand turn who right block lawful stands count lanes spent others =
       subst (λ c. Grows law key slots id (m.0, c) 3 (λ _. n) (λ _. put (step slots 3 n 0 maybe.none) (m.0, c) n)) (sym hand)
       (allowed slots id m.0 ((0, Some b) ∷ []) 3 (λ _. n) (λ _. put (step slots 3 n 0 maybe.none) (m.0, (0, Some b) ∷ []) n)
-      (λ w. puts law key slots t n w id m.0 x b turn who block lawful stands count lanes spent others))
+      (λ w. puts law key slots t n w id m.0 x b turn who right block lawful stands count lanes spent others))
 
   pub leaves_grow : (slots id t : ℕ) (m : Sat I) (b : Held I) → m.1 ≡ (0, Some b) ∷ [] → m.0.turn ≡ Has t → StandsFor m.0.all b → length b.spare ≡ length m.0.spares
       → ((i : ℕ) → get_or m.0.spares i 0 ≤ get_or b.spare i 0)
@@ -142,11 +152,11 @@ module _ {I : Type 0} (law : Law I) (key : Key) where
       → Allows (Ruled law key) slots id m 2 (λ x. (x + n) % 2 ^ 64) (drew (step slots 2 n 0 maybe.none) m)
   draws_at slots id n pk m who free fresh below pos small space = step_of slots id m 2 (λ x. (x + n) % 2 ^ 64) (drew (step slots 2 n 0 maybe.none) m) (draws_grow slots id n pk m who free fresh below pos small space)
 
-  pub puts_at : (slots id t n : ℕ) (m : Sat I) (x : Stored I) (b : Held I) → m.1 ≡ (0, Some b) ∷ [] → m.0.turn ≡ Has t → m.0.who ≡ Pen x.writer
+  pub puts_at : (slots id t n : ℕ) (m : Sat I) (x : Stored I) (b : Held I) → m.1 ≡ (0, Some b) ∷ [] → m.0.turn ≡ Has t → m.0.who ≡ Pen x.writer → can_store m.0.right ≡ true
       → m.0.block ≡ block_at x.first (length x.items) → law x.writer m.0.own x.first x.items ≡ true → StandsFor (m.0.all ++ x ∷ []) b → n ≡ length m.0.all + 1
       → length b.spare ≡ length m.0.spares → get_or b.spare x.writer 0 + length x.items ≡ get_or m.0.spares x.writer 0 → ((i : ℕ) → i ≢ x.writer → get_or b.spare i 0 ≡ get_or m.0.spares i 0)
       → Allows (Ruled law key) slots id m 3 (λ _. n) (λ _. put (step slots 3 n 0 maybe.none) m n)
-  puts_at slots id t n m x b hand turn who block lawful stands count lanes spent others = step_of slots id m 3 (λ _. n) (λ _. put (step slots 3 n 0 maybe.none) m n) (puts_grow slots id t n m x b hand turn who block lawful stands count lanes spent others)
+  puts_at slots id t n m x b hand turn who right block lawful stands count lanes spent others = step_of slots id m 3 (λ _. n) (λ _. put (step slots 3 n 0 maybe.none) m n) (puts_grow slots id t n m x b hand turn who right block lawful stands count lanes spent others)
 
   pub leaves_at : (slots id t : ℕ) (m : Sat I) (b : Held I) → m.1 ≡ (0, Some b) ∷ [] → m.0.turn ≡ Has t → StandsFor m.0.all b → length b.spare ≡ length m.0.spares
       → ((i : ℕ) → get_or m.0.spares i 0 ≤ get_or b.spare i 0)
@@ -182,7 +192,7 @@ module _ {I : Type 0} (law : Law I) (key : Key) where
     to = w;
     good = good;
     mine = k;
-    new = record { core = record { bound = k.core.bound; sees = k.core.sees; hears = (w.core.state.history, refl); reads = k.core.reads; plays = tt }; queued = tt };
+    new = record { core = record { bound = k.core.bound; sees = k.core.sees; hears = (w.core.state.history, refl); reads = k.core.reads; plays = tt; holds = tt }; queued = tt };
     others = λ j x ne q. q;
     words = refl;
     slot = refl;
@@ -212,6 +222,7 @@ module _ {I : Type 0} (law : Law I) (key : Key) where
                 hears = k.core.hears;
                 reads = k.core.reads;
                 plays = subst (λ r. Plays key to id v.own v.block v.reserve v.read v.fresh (maker_after r)) (sym who) (is.0, refl);
+                holds = holds_on w.core to id v.seen v.right refl refl k.core.holds;
               };
               queued = k.queued;
             };
@@ -230,6 +241,7 @@ module _ {I : Type 0} (law : Law I) (key : Key) where
                   within = omega arith;
                   value = λ f o. absurd (true≢false (sym f));
                 });
+                holds = tt;
               };
               queued = tt;
             };
@@ -240,6 +252,7 @@ module _ {I : Type 0} (law : Law I) (key : Key) where
                 hears = q.core.hears;
                 reads = q.core.reads;
                 plays = others_play w.core j x size (λ e. ne (sym e ∙ is.0)) is.1 x.who q.core.plays;
+                holds = holds_on w.core to j x.seen x.right refl refl q.core.holds;
               };
               queued = q.queued;
             };
@@ -261,38 +274,140 @@ module _ {I : Type 0} (law : Law I) (key : Key) where
             value = p.value;
           }
 
-  -- two seats become one
-  glued : (id : ℕ) (v : View I) (other : ℕ) (u all : View I) → ((w : World I) → Knows key w id v → Knows key w other u → Knows key w id all) → Joins (Ruled law key) id v other u all spent
-  glued id v other u all go s r at apart there =
-      let mine = r.knows id v at in
-      let theirs = r.knows other u (sym (set_else s.views id other all apart) ∙ there) in record {
-        world = r.world;
-        words = r.words;
-        homes = r.homes;
-        good = r.good;
-        knows = view_all (Knows key r.world) (set s.views id all) other spent
-            (record { core = record { bound = r.good.kept.few; sees = (r.world.core.state.history, refl); hears = (r.world.core.state.history, refl); reads = omega arith; plays = tt }; queued = tt })
-            (λ j x ne e. view_all (Knows key r.world) s.views id all (go r.world mine theirs) (λ i y no a. r.knows i y a) j x e);
+  -- what a seat knows in a world in which another seat alone may store, with another right
+  knows_with : (w : World I) (o : Option ℕ) (j : ℕ) (x : View I) (r : Right) → Knows key w j x → Holds (record w.core { alone = o }) j x.seen r → Knows key (with_alone w o) j (record x { right = r })
+  knows_with w o j x r k holds = record {
+    core = record {
+      bound = k.core.bound;
+      sees = k.core.sees;
+      hears = k.core.hears;
+      reads = k.core.reads;
+      plays = plays_on key w.core (record w.core { alone = o }) j x x refl refl (λ i p. same_pen w o j x i p) x.who k.core.plays;
+      holds = holds;
+    };
+    queued = k.queued;
+  }
+
+  good_with : (w : World I) (o : Option ℕ) → Good law key w → Good law key (with_alone w o)
+  good_with w o g = record {
+    ordered = g.ordered;
+    ready = g.ready;
+    kept = g.kept;
+    most = g.most;
+    unmade = λ k le. let u = g.unmade k le in record { stores = u.stores; block = u.block; over = u.over; space = u.space };
+    stocked = g.stocked;
+  }
+
+  -- a seat gives its right away, in part or whole, to a new one
+  gives_right : (w : World I) (id size : ℕ) (new : Option ℕ) (v second : View I) (r : Right) → Good law key w → Knows key w id v → Holds (given w.core v.right new) id v.seen r
+      → Knows key (with_alone w (alone_after v.right new w.core.alone)) size second → Cuts w id size (record v { right = r }) second
+  gives_right w id size new v second r good k mine there =
+      let o = alone_after v.right new w.core.alone in record {
+        to = with_alone w o;
+        good = good_with w o good;
+        mine = knows_with w o id v r k mine;
+        new = there;
+        others = λ j x ne q. knows_with w o j x x.right q (holds_other w.core id j new v.seen x.seen v.right x.right ne k.core.holds q.core.holds);
+        words = refl;
+        slot = refl;
       }
 
+  -- a reader that has seen as much, with some right
+  reads_with : (w : World I) (o : Option ℕ) (id size : ℕ) (v : View I) (r : Right) → Knows key w id v → Holds (record w.core { alone = o }) size v.seen r
+      → Knows key (with_alone w o) size (record (reader_of v) { right = r })
+  reads_with w o id size v r k holds = record {
+    core = record { bound = k.core.bound; sees = k.core.sees; hears = (w.core.state.history, refl); reads = k.core.reads; plays = tt; holds = holds };
+    queued = tt;
+  }
+
+  -- two that share the right to store
+  pub shares_at : (id : ℕ) (v : View I) → Splits (Ruled law key) id v (sharing v) (sharer_of v)
+  shares_at id v = cut id v (sharing v) (sharer_of v) (λ w size good k.
+      gives_right w id size None v (sharer_of v) (shared v.right) good k (holds_shared w.core id id v.seen v.right k.core.holds)
+      (reads_with w (alone_after v.right None w.core.alone) id size v (shared v.right) k (holds_shared w.core id size v.seen v.right k.core.holds)))
+
+  -- a right that goes to another seat
+  pub lends_at : (id : ℕ) (v : View I) → Splits (Ruled law key) id v (lending v) (lent v)
+  lends_at id v = cut id v (lending v) (lent v) (λ w size good k.
+      gives_right w id size (Some size) v (lent v) Nothing good k tt
+      (reads_with w (alone_after v.right (Some size) w.core.alone) id size v v.right k (holds_lent w.core id size v.seen v.right k.core.holds)))
+
+  -- two seats become one
+  record Glues (w : World I) (id other : ℕ) (all : View I) : Type 0 where
+    pub alone : Option ℕ
+    pub mine : Knows key (with_alone w alone) id all
+    pub others : (j : ℕ) (x : View I) → j ≢ id → j ≢ other → Knows key w j x → Knows key (with_alone w alone) j x
+
+  glued : (id : ℕ) (v : View I) (other : ℕ) (u all : View I) → ((w : World I) → other ≢ id → Knows key w id v → Knows key w other u → Glues w id other all) → Joins (Ruled law key) id v other u all spent
+  glued id v other u all go s r at apart there =
+      let mine = r.knows id v at in
+      let theirs = r.knows other u (sym (set_else s.views id other all apart) ∙ there) in
+      let g = go r.world apart mine theirs in
+      let to = with_alone r.world g.alone in record {
+        world = to;
+        words = r.words;
+        homes = r.homes;
+        good = good_with r.world g.alone r.good;
+        knows = view_all (Knows key to) (set s.views id all) other spent
+            (record { core = record { bound = r.good.kept.few; sees = (r.world.core.state.history, refl); hears = (r.world.core.state.history, refl); reads = omega arith; plays = tt; holds = tt }; queued = tt })
+            (λ j x ne e. view_all (λ i y. i ≢ other → Knows key to i y) s.views id all (λ no. g.mine) (λ i y no a away. g.others i y no away (r.knows i y a)) j x e ne);
+      }
+
+  -- what a seat knows that takes another's right
+  taking : (w : World I) (id other : ℕ) (v u all : View I) → Knows key w other u → Knows key (with_alone w (alone_after u.right (Some id) w.core.alone)) id all → Glues w id other all
+  taking w id other v u all q mine = record {
+    alone = alone_after u.right (Some id) w.core.alone;
+    mine = mine;
+    others = λ j x ne away p. knows_with w (alone_after u.right (Some id) w.core.alone) j x x.right p (holds_other w.core other j (Some id) u.seen x.seen u.right x.right away q.core.holds p.core.holds);
+  }
+
   pub meets_at : (id : ℕ) (v : View I) (other : ℕ) (u : View I) → Joins (Ruled law key) id v other u (both v u) spent
-  meets_at id v other u = glued id v other u (both v u) (λ w k q.
-      let h = w.core.state.history in record {
+  meets_at id v other u = glued id v other u (both v u) (λ w apart k q.
+      let h = w.core.state.history in
+      let o = alone_after u.right (Some id) w.core.alone in
+      taking w id other v u (both v u) q (record {
         core = record {
           bound = omega (arith, k.core.bound, q.core.bound);
           sees = begins_longer v.seen u.seen h k.core.sees q.core.sees;
           hears = begins_shorter v.seen u.seen h k.core.sees q.core.sees;
           reads = omega (arith, k.core.reads, q.core.reads);
-          plays = plays_on key w.core w.core id v (both v u) refl refl
-              (λ i p. record { made = p.made; seat = p.seat; own_is = p.own_is; block = p.block; space = p.space; within = p.within; value = λ f o. omega (arith, p.value f o) }) v.who k.core.plays;
+          plays = plays_on key w.core (record w.core { alone = o }) id v (both v u) refl refl
+              (λ i p. record { made = p.made; seat = p.seat; own_is = p.own_is; block = p.block; space = p.space; within = p.within; value = λ f e. omega (arith, p.value f e) }) v.who k.core.plays;
+          holds = holds_joined w.core id other v.seen u.seen v.right u.right apart k.core.sees q.core.sees k.core.holds q.core.holds;
         };
         queued = k.queued;
-      })
+      }))
+
+  pub borrows_at : (id : ℕ) (v : View I) (other : ℕ) (u : View I) → Joins (Ruled law key) id v other u (borrowing v u) spent
+  borrows_at id v other u = glued id v other u (borrowing v u) (λ w apart k q.
+      let o = alone_after u.right (Some id) w.core.alone in
+      taking w id other v u (borrowing v u) q (record {
+        core = record {
+          bound = omega (arith, k.core.bound, q.core.bound);
+          sees = q.core.sees;
+          hears = k.core.sees;
+          reads = k.core.reads;
+          plays = plays_on key w.core (record w.core { alone = o }) id v (borrowing v u) refl refl (λ i p. same_pen w o id v i p) v.who k.core.plays;
+          holds = holds_lent w.core other id u.seen u.right q.core.holds;
+        };
+        queued = k.queued;
+      }))
 
   pub hears_at : (id : ℕ) (v : View I) (other : ℕ) (u : View I) → Joins (Ruled law key) id v other u (hearing v u) spent
-  hears_at id v other u = glued id v other u (hearing v u) (λ w k q. record {
-    core = record { bound = omega (arith, k.core.bound, q.core.bound); sees = k.core.sees; hears = q.core.sees; reads = k.core.reads; plays = k.core.plays };
-    queued = k.queued;
+  hears_at id v other u = glued id v other u (hearing v u) (λ w apart k q. record {
+    alone = w.core.alone;
+    mine = record {
+      core = record {
+        bound = omega (arith, k.core.bound, q.core.bound);
+        sees = k.core.sees;
+        hears = q.core.sees;
+        reads = k.core.reads;
+        plays = plays_on key w.core (record w.core { alone = w.core.alone }) id v (hearing v u) refl refl (λ i p. same_pen w w.core.alone id v i p) v.who k.core.plays;
+        holds = holds_on w.core (record w.core { alone = w.core.alone }) id v.seen v.right refl refl k.core.holds;
+      };
+      queued = k.queued;
+    };
+    others = λ j x ne away p. knows_with w w.core.alone j x x.right p (holds_on w.core (record w.core { alone = w.core.alone }) j x.seen x.right refl refl p.core.holds);
   })
 
   -- the start
@@ -324,7 +439,7 @@ module _ {I : Type 0} (law : Law I) (key : Key) where
     where
       first : (j : ℕ) (v : View I) → get_elem? (opening_view key ∷ []) j ≡ maybe.some v → Knows key (opening_world key) j v
       first zero v e = subst (Knows key (opening_world key) 0) (some-injective (opening_view key) v e) (record {
-        core = record { bound = omega arith; sees = ([], refl); hears = ([], refl); reads = omega arith; plays = (refl, refl) };
+        core = record { bound = omega arith; sees = ([], refl); hears = ([], refl); reads = omega arith; plays = (refl, refl); holds = (refl, refl) };
         queued = tt;
       })
       first (suc j) v e = absurd (some-ne-none v (sym e))
@@ -339,7 +454,7 @@ steps_grow law key slots id m = record {
   reads = reads_grow law key slots id m;
   learns = learns_grow law key slots id m;
   draws = λ n k d. draws_grow law key slots id n k m d.who d.free d.fresh d.below d.some_positions d.few d.space;
-  puts = λ t n x b p. puts_grow law key slots id t n m x b p.hand p.turn p.who p.block p.lawful p.stands p.count p.lanes p.spent p.others;
+  puts = λ t n x b p. puts_grow law key slots id t n m x b p.hand p.turn p.who p.right p.block p.lawful p.stands p.count p.lanes p.spent p.others;
   leaves = λ t b e. leaves_grow law key slots id t m b e.hand e.turn e.stands e.lanes e.spares;
 }
 
@@ -368,4 +483,6 @@ one_history law key s r =
       covers = λ j v front k b at is held. seen_covers w.state kept.reached v.seen (r.knows j v at).core.sees front is k b held;
       pens = λ j v k at who. let p = pen_is key w j v k (r.knows j v at).core who in record { own_is = p.own_is; block = sym p.block };
       one_pen = λ i j u v k a b who same. sym (pen_is key w i u k (r.knows i u a).core who).seat ∙ (pen_is key w j v k (r.knows j v b).core same).seat;
+      whole = λ j v at is. alone_sees w j v.seen v.right is (r.knows j v at).core.holds;
+      alone = λ i j u v a b is ne. none_else w i j v.seen v.right (alone_at w i u.seen u.right is (r.knows i u a).core.holds) ne (r.knows j v b).core.holds;
     }

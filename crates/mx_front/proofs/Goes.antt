@@ -24,6 +24,7 @@ use Rattle.mx_front.specs.declared.view.View.{View}
 use Rattle.mx_front.specs.Queue.{Line, IsHome, Waiting}
 use Rattle.mx_front.specs.World.{Slot, Core, World, words_of, Kept, Standing, Stocked, Good, InTurn, Queued, PenOf, Plays, Knowing, Knows}
 use Rattle.mx_front.specs.Told.{Sat, claimed, came, looking, looked, glancing, glanced, read_next, longer, learned}
+use Rattle.mx_front.proofs.Rights.{alone_sees, holds_all, longer_whole}
 use Rattle.mx_front.proofs.Queues.{turn_cases, claimed_line, other_ticket, came_line, left_line}
 use Rattle.mx_front.proofs.Worlds.{change, change_here, passed_le, held_few, begins_longer, begins_one}
 
@@ -140,7 +141,7 @@ module _ {I : Type 0} (law : Law I) (key : Key) where
           stocked = good.stocked;
         };
         mine = record {
-          core = record { bound = k.core.bound; sees = k.core.sees; hears = k.core.hears; reads = k.core.reads; plays = k.core.plays };
+          core = record { bound = k.core.bound; sees = k.core.sees; hears = k.core.hears; reads = k.core.reads; plays = k.core.plays; holds = k.core.holds };
           queued = record {
             from = good.ordered;
             below = omega (arith, hit);
@@ -180,7 +181,7 @@ module _ {I : Type 0} (law : Law I) (key : Key) where
               stocked = tt;
             };
             mine = record {
-              core = record { bound = k.core.bound; sees = k.core.sees; hears = k.core.hears; reads = k.core.reads; plays = k.core.plays };
+              core = record { bound = k.core.bound; sees = k.core.sees; hears = k.core.hears; reads = k.core.reads; plays = k.core.plays; holds = k.core.holds };
               queued = record { queue = record { turn = refl; below = q.below; mine = q.mine; out = refl }; whole = refl; spaces = b.stands.spaces; count = b.stands.count };
             };
             others = λ j x ne q'. record { core = q'.core; queued = came_others key.writers w.line w.core.state.history w.core.space j id x.all x.spares x.turn ne q.mine q'.queued };
@@ -212,7 +213,14 @@ module _ {I : Type 0} (law : Law I) (key : Key) where
         valid = tt;
         good = good;
         mine = record {
-          core = record { bound = k.core.bound; sees = ([], sym q.whole ∙ sym (append-nil v.all)); hears = k.core.hears; reads = k.core.reads; plays = k.core.plays };
+          core = record {
+            bound = k.core.bound;
+            sees = ([], sym q.whole ∙ sym (append-nil v.all));
+            hears = k.core.hears;
+            reads = k.core.reads;
+            plays = k.core.plays;
+            holds = holds_all w.core w.core id v.seen v.all v.right refl q.whole k.core.holds;
+          };
           queued = k.queued;
         };
         others = λ j x ne o. o;
@@ -224,11 +232,14 @@ module _ {I : Type 0} (law : Law I) (key : Key) where
           record {
             count = ap length (sym q.whole);
             begins = subst (Begins v.seen) (sym q.whole) k.core.sees;
+            heard = subst (Begins v.heard) (sym q.whole) k.core.hears;
+            alone = λ is. q.whole ∙ sym (alone_sees w.core id v.seen v.right is k.core.holds);
             lawful = ap (keeps_law law []) q.whole ∙ kept.lawful;
             orderly = runs_are_orderly s kept.reached v.all ([], sym q.whole ∙ sym (append-nil v.all));
             writers = subst (AreOf v.writers) (sym q.whole) (of_writers s w.core.over kept v.writers s.history k.core.bound ([], sym (append-nil s.history)));
             reads = subst (λ h. v.read ≤ stored_count h + most_held) (sym q.whole) (omega (arith, k.core.reads, reached_counts s kept.reached, held_few s.held kept.blocks, kept.writers, kept.few));
             pen = λ pk who. let p = pen_is key w.core id v pk k.core who in record {
+              below = omega (arith, p.made, good.most, k.core.bound);
               own_is = ap (λ h. own h pk) q.whole ∙ sym p.own_is;
               block = λ b e.
                   let at : block_of s pk ≡ Some b = p.block ∙ e in
@@ -259,7 +270,14 @@ module _ {I : Type 0} (law : Law I) (key : Key) where
         valid = tt;
         good = good;
         mine = record {
-          core = record { bound = k.core.bound; sees = whole; hears = k.core.hears; reads = k.core.reads; plays = k.core.plays };
+          core = record {
+            bound = k.core.bound;
+            sees = whole;
+            hears = k.core.hears;
+            reads = k.core.reads;
+            plays = k.core.plays;
+            holds = holds_all w.core w.core id v.seen s.history v.right refl refl k.core.holds;
+          };
           queued = k.queued;
         };
         others = λ j x ne o. o;
@@ -272,6 +290,7 @@ module _ {I : Type 0} (law : Law I) (key : Key) where
           record {
             count = refl;
             begins = k.core.sees;
+            alone = λ is. sym (alone_sees w.core id v.seen v.right is k.core.holds);
             lawful = kept.lawful;
             orderly = runs_are_orderly s kept.reached s.history whole;
             writers = of_writers s w.core.over kept v.writers s.history k.core.bound whole;
@@ -298,6 +317,7 @@ module _ {I : Type 0} (law : Law I) (key : Key) where
             reads = omega arith;
             plays = plays_on key w.core w.core id v u refl refl
                 (λ pk p. record { made = p.made; seat = p.seat; own_is = p.own_is; block = p.block; space = p.space; within = p.within; value = λ f o. good.kept.over_is pk o }) v.who k.core.plays;
+            holds = k.core.holds;
           };
           queued = k.queued;
         };
@@ -324,5 +344,6 @@ module _ {I : Type 0} (law : Law I) (key : Key) where
           writers = of_writers w.core.state w.core.over good.kept v.writers (longer v.seen v.heard) k.core.bound (begins_longer v.seen v.heard h k.core.sees k.core.hears);
           seen = λ pk who. of_pen v.seen pk k.core.sees who;
           heard = λ pk who. of_pen v.heard pk k.core.hears who;
+          alone = λ is. longer_whole v.seen v.heard h (alone_sees w.core id v.seen v.right is k.core.holds) k.core.hears;
         },
       )

@@ -3,6 +3,8 @@ pub mod Goes
 pub mod Moves
 pub mod Allowed
 pub mod Seats
+pub mod Stores
+pub mod Rights
 pub mod Meetings
 pub mod Openings
 pub mod Queues

@@ -20,8 +20,9 @@ use Rattle.mx_front.specs.declared.view.Turn.TheVariants.{Has}
 use Rattle.mx_front.specs.declared.view.View.{View}
 use Rattle.mx_front.specs.Queue.{Line}
 use Rattle.mx_front.specs.World.{Slot, Core, World, Stocked, Good, InTurn, Queued, PenOf, Plays, Knows}
-use Rattle.mx_front.specs.Told.{block_at, drawing, drew, storing, put, reserve_in, leaving, left}
+use Rattle.mx_front.specs.Told.{block_at, can_store, drawing, drew, storing, put, reserve_in, leaving, left}
 use Rattle.mx_front.proofs.Worlds.{change, change_here, change_else, passing, stored_own, length_own}
+use Rattle.mx_front.proofs.Rights.{holds_all, holds_else, holds_on}
 use Rattle.mx_front.proofs.Goes.{Goes, space_after, changed_others, left_others, pen_is, turn_is, plays_on, few_drawn}
 
 -- the book in hand
@@ -135,6 +136,7 @@ module _ {I : Type 0} (law : Law I) (key : Key) where
               within = space;
               value = λ f o. absurd (true≢false (sym f));
             });
+            holds = holds_on w.core (record w.core { state = drawn s pk n; over = next.now }) id v.seen v.right refl refl k.core.holds;
           };
           queued = k.queued;
         };
@@ -154,6 +156,7 @@ module _ {I : Type 0} (law : Law I) (key : Key) where
                   within = o.within;
                   value = λ f e. o.value f (sym (next.others i other) ∙ e);
                 }) x.who q.core.plays;
+            holds = holds_on w.core (record w.core { state = drawn s pk n; over = next.now }) j x.seen x.right refl refl q.core.holds;
           };
           queued = q.queued;
         };
@@ -172,12 +175,12 @@ module _ {I : Type 0} (law : Law I) (key : Key) where
       }
 
   -- with the turn, one store more
-  pub puts : (slots t n : ℕ) (w : World I) (id : ℕ) (v : View I) (x : Stored I) (b : Held I) → v.turn ≡ Has t → v.who ≡ Pen x.writer
+  pub puts : (slots t n : ℕ) (w : World I) (id : ℕ) (v : View I) (x : Stored I) (b : Held I) → v.turn ≡ Has t → v.who ≡ Pen x.writer → can_store v.right ≡ true
       → v.block ≡ block_at x.first (length x.items) → law x.writer v.own x.first x.items ≡ true → StandsFor (v.all ++ x ∷ []) b → n ≡ length v.all + 1
       → length b.spare ≡ length v.spares → get_or b.spare x.writer 0 + length x.items ≡ get_or v.spares x.writer 0 → ((i : ℕ) → i ≢ x.writer → get_or b.spare i 0 ≡ get_or v.spares i 0)
       → Good law key w → Knows key w id v
       → Goes law key w id ((0, Some b) ∷ []) 3 n (put (step slots 3 n 0 maybe.none) (v, (0, Some b) ∷ []) n)
-  puts slots t n w id v x b turn who block lawful stands count lanes spent others good k =
+  puts slots t n w id v x b turn who right block lawful stands count lanes spent others good k =
       let pk : ℕ = x.writer in
       let p = pen_is key w.core id v pk k.core who in
       let q : InTurn key.writers w.line w.core.state.history w.core.space id v.all v.spares t = turn_is key w id v (Has t) k turn in
@@ -241,6 +244,7 @@ module _ {I : Type 0} (law : Law I) (key : Key) where
               within = omega arith;
               value = p.value;
             });
+            holds = holds_all w.core to id v.seen (v.all ++ x ∷ []) v.right refl more k.core.holds;
           };
           queued = subst (Queued key.writers w.line s'.history space' id u.all u.spares) (sym turn) (record {
             queue = q.queue;
@@ -273,6 +277,7 @@ module _ {I : Type 0} (law : Law I) (key : Key) where
                   within = r.within;
                   value = r.value;
                 }) y.who o.core.plays;
+            holds = holds_else w.core to id j v.seen y.seen v.right y.right ne right refl k.core.holds o.core.holds;
           };
           queued = changed_others key.writers w.line s.history s'.history w.core.space space' j id y.all y.spares y.turn ne served o.queued;
         };
@@ -316,7 +321,7 @@ module _ {I : Type 0} (law : Law I) (key : Key) where
           };
         };
         mine = record {
-          core = record { bound = k.core.bound; sees = k.core.sees; hears = k.core.hears; reads = k.core.reads; plays = left_plays key w.core id v b.spare spaces v.who k.core.plays };
+          core = record { bound = k.core.bound; sees = k.core.sees; hears = k.core.hears; reads = k.core.reads; plays = left_plays key w.core id v b.spare spaces v.who k.core.plays; holds = holds_on w.core to id v.seen v.right refl refl k.core.holds };
           queued = tt;
         };
         others = λ j y ne o. record {
@@ -335,6 +340,7 @@ module _ {I : Type 0} (law : Law I) (key : Key) where
                   within = r.within;
                   value = r.value;
                 }) y.who o.core.plays;
+            holds = holds_on w.core to j y.seen y.right refl refl o.core.holds;
           };
           queued = left_others key.writers w.line h w.core.space space' j id t b y.all y.spares y.turn ne served q.queue.turn o.queued;
         };

@@ -4,21 +4,22 @@ use mathlib.Core.Option as maybe
 use Rattle.atomic_table.specs.Table.{step, Allows, rest}
 use Rattle.mx_core.specs.declared.history.Stored.{Stored}
 use Rattle.mx_core.specs.Front.{IsFront}
-use Rattle.mx_core.specs.History.{own, is_stored, Law}
+use Rattle.mx_core.specs.History.{own, is_stored, AreOf, Begins, Law}
 use Rattle.mx_core.specs.Orderly.{top}
 use Rattle.mx_core.proofs.Orders.{orderly_more}
-use Rattle.mx_core.proofs.Owns.{own-here, keeps_law_more}
+use Rattle.mx_core.proofs.Owns.{own-here, keeps_law_more, are_of_more}
 use Rattle.mx_lanes.specs.Held.{Held, StandsFor, Keeps, OthersKeep, spare_of}
 use Rattle.mx_lanes.specs.Parts.{Taken, IsUpTo}
 use Rattle.std.proofs.Common.{Result, IfOk, OnOk}
 use Rattle.std.proofs.lemmas.Result.{IfOk-weaker, on_ok_weaker}
 use Rattle.mx_lanes.proofs.Stands.{one_store_more, stands_still}
 use Rattle.mx_front.specs.declared.board.Key.{Key}
+use Rattle.mx_front.specs.declared.view.Right.TheVariants.{Alone}
 use Rattle.mx_front.specs.declared.view.Role.TheVariants.{Pen}
 use Rattle.mx_front.specs.declared.view.Turn.TheVariants.{Idle, Waits, Has}
 use Rattle.mx_front.specs.declared.view.View.{View}
 use Rattle.mx_front.specs.World.{Slot, Ruled}
-use Rattle.mx_front.specs.Told.{Sat, block_at, Came, Looked, Glanced, looking, glancing, storing, put, reserve_in, leaving}
+use Rattle.mx_front.specs.Told.{Sat, block_at, can_store, Came, Looked, Glanced, looking, glancing, storing, put, reserve_in, leaving}
 use Rattle.mx_front.specs.Turns.{holding, HasBook, entering, Entered, seizing, Seized, Ready, Stores, Grown, MayLeave}
 use Rattle.mx_front.specs.Calls.{Finishes, KeepsSpace, Looks, Shows}
 use Rattle.mx_front.proofs.Allowed.{puts_at}
@@ -54,17 +55,19 @@ module _ {I : Type 0} (law : Law I) where
         space = e.space;
         below = e.below;
         begins = l.begins;
+        heard = l.heard;
+        alone = l.alone;
         lawful = l.lawful;
         orderly = l.orderly;
         writers = l.writers;
         reads = l.reads;
-        pen = λ k who. let o = l.pen k who in record { own_is = o.own_is; block = o.block; above = o.above; apart = o.apart };
+        pen = λ k who. let o = l.pen k who in record { below = o.below; own_is = o.own_is; block = o.block; above = o.above; apart = o.apart };
       }
 
   -- a pen with a block may store it
-  pub ready : (v : View I) (t : ℕ) (m : Sat I) (x : Stored I) → Seized law v t m → v.who ≡ Pen x.writer → v.block ≡ block_at x.first (length x.items) → law x.writer v.own x.first x.items ≡ true
-      → (b : Held I) × Ready law m x b
-  ready v t m x s who block lawful =
+  pub ready : (v : View I) (t : ℕ) (m : Sat I) (x : Stored I) → Seized law v t m → v.who ≡ Pen x.writer → can_store v.right ≡ true → v.block ≡ block_at x.first (length x.items)
+      → law x.writer v.own x.first x.items ≡ true → (b : Held I) × Ready law m x b
+  ready v t m x s who right block lawful =
       let o = s.pen x.writer who in
       let r = s.space x.writer who in
       let b = o.block (record { first = x.first; count = length x.items }) block in (
@@ -74,6 +77,7 @@ module _ {I : Type 0} (law : Law I) where
           ticket = t;
           turn = refl;
           who = who;
+          right = right;
           block = block;
           lawful = lawful;
           stands = s.stands;
@@ -97,7 +101,7 @@ module _ {I : Type 0} (law : Law I) where
   puts_from key slots id n m m1 m2 x o b r out back history front spent others count =
       let is : m2 ≡ (m.0, holding b) = back ∙ ap (λ (y : Sat I). let z : Sat I = (y.0, holding b) in z) out in
       subst (λ (y : Sat I). Allows (Ruled law key) slots id y 3 (λ _. n) (λ _. put (step slots 3 n 0 maybe.none) y n)) (sym is)
-      (puts_at law key slots id r.ticket n (m.0, holding b) x b refl r.turn r.who r.block r.lawful (one_store_more m.0.all x o b r.stands history front)
+      (puts_at law key slots id r.ticket n (m.0, holding b) x b refl r.turn r.who r.right r.block r.lawful (one_store_more m.0.all x o b r.stands history front)
       (omega (arith, count, ap length history, length-append o.history (x ∷ []), r.stands.stores))
       (omega (arith, others.lanes, ap length r.spares))
       (spent ∙ ap (λ l. get_or l x.writer 0) (sym r.spares))
@@ -138,6 +142,12 @@ module _ {I : Type 0} (law : Law I) where
     pub writes : m.0.who ≡ Pen x.writer
     pub complete : own m.0.seen x.writer ≡ m.0.own
     pub finishes : Finishes law v x front m.0
+    -- with the right that it has
+    pub heard : Begins v.heard finishes.before
+    pub alone : v.right ≡ Alone → finishes.before ≡ v.seen
+    pub right : m.0.right ≡ v.right
+    pub bound : m.0.writers ≡ v.writers
+    pub writers : AreOf m.0.writers m.0.seen
 
   pub finished : (v : View I) (t front : ℕ) (m m1 m2 : Sat I) (x : Stored I) → Seized law v t m → v.who ≡ Pen x.writer → v.block ≡ block_at x.first (length x.items)
       → law x.writer v.own x.first x.items ≡ true → Stores m.0 x front m1 → ((b : Held I) → m1.1 ≡ holding b → m2 ≡ (leaving m1.0 b, [])) → Finished v x front m2
@@ -168,6 +178,11 @@ module _ {I : Type 0} (law : Law I) where
           read = refl;
           fresh = refl;
         };
+        heard = s.heard;
+        alone = s.alone;
+        right = refl;
+        bound = refl;
+        writers = are_of_more v.writers s.all x s.writers o.below;
       })
 
 -- a turn in which the book's stores stay
@@ -218,6 +233,7 @@ module _ {I : Type 0} where
   pub record Reserved (law : Law I) (v : View I) (k : ℕ) (m : Sat I) : Type 0 where
     pub rests : (m.0.turn ≡ Idle) × (m.1 ≡ [])
     pub writes : m.0.who ≡ Pen k
+    pub right : m.0.right ≡ v.right
     pub keeps_space : KeepsSpace v m.0
 
   pub reserved : (law : Law I) (v : View I) (t k : ℕ) (m m1 m2 : Sat I) → Entered v t m → v.who ≡ Pen k → Grown m m1 → ((b : Held I) → m1.1 ≡ holding b → m2 ≡ (leaving m1.0 b, [])) → Reserved law v k m2
@@ -228,6 +244,7 @@ module _ {I : Type 0} where
       subst (Reserved law v k) (sym is) (record {
         rests = (refl, refl);
         writes = who;
+        right = refl;
         keeps_space = record {
           reserve =
               let r = e.space k who in
@@ -260,7 +277,7 @@ module _ {I : Type 0} where
       let is : m2 ≡ (leaving (seizing v t s.all s.book.spare) g.new, []) = left g.new (ap (λ (y : Sat I). y.1) g.is) ∙ ap (λ (y : Sat I). let z : Sat I = (leaving y.0 g.new, []) in z) went.0 in
       subst (HasLooked law v) (sym is) (record {
         rests = (refl, refl);
-        looks = record { begins = s.begins; looks = refl; lawful = s.lawful; orderly = s.orderly; fewer = omega arith; writers = s.writers; read = refl; reads = s.reads };
+        looks = record { begins = s.begins; looks = refl; lawful = s.lawful; orderly = s.orderly; fewer = omega arith; writers = s.writers; read = refl; reads = s.reads; right = refl; alone = s.alone };
       })
 
   -- what a pass knows after a look without a turn
@@ -275,7 +292,7 @@ module _ {I : Type 0} where
       let s = told.2 in
       subst (HasGlanced law m.0 found) (sym told.1) (record {
         rests = rests;
-        looks = record { begins = s.begins; looks = refl; lawful = s.lawful; orderly = s.orderly; read = refl; fewer = omega arith; writers = s.writers; reads = s.reads };
+        looks = record { begins = s.begins; looks = refl; lawful = s.lawful; orderly = s.orderly; read = refl; fewer = omega arith; writers = s.writers; reads = s.reads; right = refl; alone = s.alone };
         count = s.count;
       })
 

@@ -1,6 +1,6 @@
 -- Functions with one value changed, the writers past the stop, lists that begin one history, and the stores of one writer.
-use Rattle.std.proofs.Common.{◌≡◌, ◌≢◌, ℕ, zero, suc, ◌+◌, ◌*◌, ◌<◌, ◌≤◌, Bool, true, false, eqb, nat_eq, if◌then◌else◌, List, [], ◌∷◌, ◌++◌, Option, None, length, get_or, take, drop, refl, sym, ap, ◌∙◌, inl, inr, leb, arith}
-use Rattle.std.proofs.lemmas.Bool.{cases_Bool, cases_eq, cases_lt, or_cases, or_left, or_right, eq-eqb, ne_eqb, false≢true}
+use Rattle.std.proofs.Common.{◌≡◌, ◌≢◌, ℕ, zero, suc, ◌+◌, ◌*◌, ◌<◌, ◌≤◌, Bool, true, false, eqb, nat_eq, if◌then◌else◌, List, [], ◌∷◌, ◌++◌, Option, None, length, append-nil, get_or, take, drop, refl, sym, ap, ◌∙◌, inl, inr, leb, arith}
+use Rattle.std.proofs.lemmas.Bool.{cases_Bool, cases_eq, cases_lt, or_cases, or_left, or_right, eq-eqb, ne_eqb}
 use Rattle.std.proofs.lemmas.List.{take-append-drop, take-append-le}
 use Rattle.std.proofs.Math.Seq.{take-append_seam}
 use Rattle.mx_core.specs.Limits.{most_writers, most_drawn}
@@ -71,6 +71,10 @@ held_few (o ∷ held) all =
 
 -- beginnings of one history
 module _ {A : Type 0} where
+  pub no_rest : (xs rest : List A) → length rest ≡ 0 → xs ++ rest ≡ xs
+  no_rest xs [] e = append-nil xs
+  no_rest xs (x ∷ rest) e = absurd (omega arith)
+
   pub begins_both : (xs ys h : List A) → Begins xs h → Begins ys h → length xs ≤ length ys → Begins xs ys
   begins_both xs ys h a b le =
       let front : take (length xs) ys ≡ xs = sym (take-append-le (length xs) ys b.0 le) ∙ ap (take (length xs)) (sym b.1 ∙ a.1) ∙ take-append_seam xs a.0 in

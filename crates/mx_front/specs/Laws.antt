@@ -14,10 +14,11 @@ use Rattle.mx_core.specs.Runs.{IsReached}
 use Rattle.mx_core.specs.State.{State, block_of}
 use Rattle.mx_lanes.specs.Held.{Held, StandsFor}
 use Rattle.mx_front.specs.declared.board.Key.{Key}
+use Rattle.mx_front.specs.declared.view.Right.TheVariants.{Nothing, Alone}
 use Rattle.mx_front.specs.declared.view.Role.TheVariants.{Pen}
 use Rattle.mx_front.specs.declared.view.View.{View}
 use Rattle.mx_front.specs.declared.view.Turn.TheVariants.{Has}
-use Rattle.mx_front.specs.Told.{Sat, block_at, claimed, came, looked, glanced, read_next, drew, put, left, learned}
+use Rattle.mx_front.specs.Told.{Sat, block_at, can_store, claimed, came, looked, glanced, read_next, drew, put, left, learned}
 use Rattle.mx_front.specs.World.{Slot, Ruled}
 
 -- a pen's own list is all that its writer has stored, once and in its order, and its block is the one that the machine has for it
@@ -44,6 +45,9 @@ pub record OneHistory {I : Type 0} (law : Law I) (words : List ℕ) (views : Lis
   pub pens : (j : ℕ) (v : View I) (k : ℕ) → get_elem? views j ≡ maybe.some v → v.who ≡ Pen k → IsPenOf state v k
   -- a writer has one pen
   pub one_pen : (i j : ℕ) (u v : View I) (k : ℕ) → get_elem? views i ≡ maybe.some u → get_elem? views j ≡ maybe.some v → u.who ≡ Pen k → v.who ≡ Pen k → i ≡ j
+  -- a seat that alone may store has seen all of it, and no other may store
+  pub whole : (j : ℕ) (v : View I) → get_elem? views j ≡ maybe.some v → v.right ≡ Alone → v.seen ≡ state.history
+  pub alone : (i j : ℕ) (u v : View I) → get_elem? views i ≡ maybe.some u → get_elem? views j ≡ maybe.some v → u.right ≡ Alone → i ≢ j → v.right ≡ Nothing
 
 abbrev pub SeesOneHistory : {I : Type 0} → Law I → Type 0
 SeesOneHistory {I} law = (key : Key) (s : table.State (Slot I) (View I)) → Ruled law key s → OneHistory law s.words s.views
@@ -69,11 +73,12 @@ pub record MayDraw {I : Type 0} (key : Key) (v : View I) (n k : ℕ) : Type 0 wh
   pub few : n ≤ most_drawn
   pub space : n ≤ v.reserve
 
--- a pen with the turn may store x: the book in hand has it
+-- a pen with the turn and with the right of a pass may store x: the book in hand has it
 pub record MayPut {I : Type 0} (law : Law I) (m : Sat I) (t n : ℕ) (x : Stored I) (b : Held I) : Type 0 where
   pub hand : m.1 ≡ (0, Some b) ∷ []
   pub turn : m.0.turn ≡ Has t
   pub who : m.0.who ≡ Pen x.writer
+  pub right : can_store m.0.right ≡ true
   pub block : m.0.block ≡ block_at x.first (length x.items)
   pub lawful : law x.writer m.0.own x.first x.items ≡ true
   pub stands : StandsFor (m.0.all ++ x ∷ []) b

@@ -1,5 +1,5 @@
 -- What each step at a stream's table tells: of the step, the seat before, the number found and the seat after.
-use Rattle.std.specs.Prelude.{◌≡◌, ◌≢◌, ℕ, ◌+◌, ◌-◌, ◌^◌, ◌<◌, ◌≤◌, true, false, List, [], ◌∷◌, ◌++◌, Option, Some, None, length, slice_index, max, min, nat_le, if◌then◌else◌}
+use Rattle.std.specs.Prelude.{◌≡◌, ◌≢◌, ℕ, ◌+◌, ◌-◌, ◌^◌, ◌<◌, ◌≤◌, Bool, true, false, List, [], ◌∷◌, ◌++◌, Option, Some, None, length, slice_index, max, min, nat_le, if◌then◌else◌}
 use Rattle.atomic_table.specs.Table.{Me, Step}
 use Rattle.mx_core.specs.declared.history.Stored.{Stored}
 use Rattle.mx_core.specs.declared.machine.Block.{Block}
@@ -7,6 +7,8 @@ use Rattle.mx_core.specs.History.{own, is_stored, stored_count, AreOf, Begins, L
 use Rattle.mx_core.specs.Limits.{most_writers, most_held}
 use Rattle.mx_core.specs.Orderly.{IsOrderly, top}
 use Rattle.mx_lanes.specs.Held.{Held, StandsFor}
+use Rattle.mx_front.specs.declared.view.Right.{Right}
+use Rattle.mx_front.specs.declared.view.Right.TheVariants.{Nothing, Shared, Alone}
 use Rattle.mx_front.specs.declared.view.Role.{Role}
 use Rattle.mx_front.specs.declared.view.Role.TheVariants.{Reader, Maker, Pen}
 use Rattle.mx_front.specs.declared.view.Turn.TheVariants.{Idle, Waits, Has}
@@ -41,16 +43,20 @@ pub record Came {I : Type 0} (m : Sat I) (found : ℕ) (m' : Sat I) : Type 0 whe
 abbrev pub came : {I : Type 0} → At I → Sat I → ℕ → Sat I → Type 0
 came st m found m' = (m.0.turn ≡ Waits found → Came m found m') × (m.0.turn ≢ Waits found → m' ≡ m)
 
--- what a look tells of a pen: its own stores, and a block of which no position is stored
+-- what a look tells of a pen: its writer, its own stores, and a block of which no position is stored
 pub record OwnIn {I : Type 0} (v : View I) (all : List (Stored I)) (k : ℕ) : Type 0 where
+  pub below : k < v.writers
   pub own_is : own all k ≡ v.own
   pub block : (b : Block) → v.block ≡ Some b → (0 < b.first) × (0 < b.count) × (b.first + b.count ≤ 2 ^ 48) × (b.count ≤ v.reserve)
   pub above : (b : Block) → v.block ≡ Some b → top 0 v.own < b.first
   pub apart : (b : Block) (p : ℕ) → v.block ≡ Some b → b.first ≤ p → p < b.first + b.count → is_stored all p ≡ false
 
+-- a look of the seat that alone may store finds what it had seen
 pub record Looked {I : Type 0} (law : Law I) (v : View I) (found : ℕ) : Type 0 where
   pub count : found ≡ length v.all
   pub begins : Begins v.seen v.all
+  pub heard : Begins v.heard v.all
+  pub alone : v.right ≡ Alone → v.all ≡ v.seen
   pub lawful : keeps_law law [] v.all ≡ true
   pub orderly : IsOrderly v.all
   pub writers : AreOf v.writers v.all
@@ -68,6 +74,7 @@ looked law st m found m' = (m' ≡ (looking m.0, m.1)) × Looked law m.0 found
 pub record Glanced {I : Type 0} (law : Law I) (v : View I) (found : ℕ) (all : List (Stored I)) : Type 0 where
   pub count : found ≡ length all
   pub begins : Begins v.seen all
+  pub alone : v.right ≡ Alone → all ≡ v.seen
   pub lawful : keeps_law law [] all ≡ true
   pub orderly : IsOrderly all
   pub writers : AreOf v.writers all
@@ -135,6 +142,7 @@ pub record Learned {I : Type 0} (law : Law I) (v : View I) : Type 0 where
   pub writers : AreOf v.writers (longer v.seen v.heard)
   pub seen : (k : ℕ) → v.who ≡ Pen k → Begins (own v.seen k) v.own
   pub heard : (k : ℕ) → v.who ≡ Pen k → Begins (own v.heard k) v.own
+  pub alone : v.right ≡ Alone → longer v.seen v.heard ≡ v.seen
 
 abbrev pub learned : {I : Type 0} → Law I → At I → Sat I → ℕ → Sat I → Type 0
 learned law st m found m' = (m' ≡ m) × Learned law m.0
@@ -161,13 +169,47 @@ same v = v
 abbrev pub reader_of : {I : Type 0} → View I → View I
 reader_of v = record (blank v.writers Reader) { seen = v.seen; read = v.read }
 
+-- whether a seat may store, and what becomes of the right that two share, and of the rights of two that are joined
+abbrev pub can_store : Right → Bool
+can_store Nothing = false
+can_store Shared = true
+can_store Alone = true
+
+abbrev pub shared : Right → Right
+shared Nothing = Nothing
+shared Shared = Shared
+shared Alone = Shared
+
+abbrev pub joined : Right → Right → Right
+joined Nothing q = q
+joined Shared q = Shared
+joined Alone q = Alone
+
+-- two that may store, in the place of one
+abbrev pub sharing : {I : Type 0} → View I → View I
+sharing v = record v { right = shared v.right }
+
+abbrev pub sharer_of : {I : Type 0} → View I → View I
+sharer_of v = record (reader_of v) { right = shared v.right }
+
+-- a seat gives its right to store away, with what it has seen
+abbrev pub lending : {I : Type 0} → View I → View I
+lending v = record v { right = Nothing }
+
+abbrev pub lent : {I : Type 0} → View I → View I
+lent v = record (reader_of v) { right = v.right }
+
 -- a seat that was joined to another
 abbrev pub spent : {I : Type 0} → View I
 spent = blank most_writers Reader
 
 -- the first seat after a join: it has seen the longer list and has heard of the shorter
 abbrev pub both : {I : Type 0} → View I → View I → View I
-both v w = record v { seen = longer v.seen w.seen; heard = shorter v.seen w.seen; read = max v.read w.read; writers = min v.writers w.writers }
+both v w = record v { seen = longer v.seen w.seen; heard = shorter v.seen w.seen; read = max v.read w.read; writers = min v.writers w.writers; right = joined v.right w.right }
+
+-- the first seat after it was lent the right of the second: it has seen what that has, and has heard of what it had seen
+abbrev pub borrowing : {I : Type 0} → View I → View I → View I
+borrowing v w = record v { seen = w.seen; heard = v.seen; writers = min v.writers w.writers; right = w.right }
 
 abbrev pub hearing : {I : Type 0} → View I → View I → View I
 hearing v w = record v { heard = w.seen; writers = min v.writers w.writers }

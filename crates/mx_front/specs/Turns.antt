@@ -6,11 +6,12 @@ use Rattle.mx_core.specs.Orderly.{IsOrderly}
 use Rattle.mx_core.specs.History.{is_stored, stored_count, AreOf, Begins, Law, keeps_law}
 use Rattle.mx_core.specs.Limits.{most_held}
 use Rattle.mx_lanes.specs.Held.{Held, StandsFor, Keeps}
+use Rattle.mx_front.specs.declared.view.Right.TheVariants.{Alone}
 use Rattle.mx_front.specs.declared.view.Role.TheVariants.{Pen}
 use Rattle.mx_front.specs.declared.view.Turn.TheVariants.{Has}
 use Rattle.mx_front.specs.declared.view.View.{View}
 use Rattle.mx_front.specs.World.{Slot}
-use Rattle.mx_front.specs.Told.{Sat, block_at, HasSpaceIn, OwnIn, storing}
+use Rattle.mx_front.specs.Told.{Sat, block_at, can_store, HasSpaceIn, OwnIn, storing}
 
 -- the book is in hand
 abbrev pub holding : {I : Type 0} → Held I → List (ℕ × Slot I)
@@ -43,18 +44,21 @@ pub record Seized {I : Type 0} (law : Law I) (v : View I) (ticket : ℕ) (m : Sa
   pub space : HasSpaceIn v book.spare
   pub below : ticket + 1 < 2 ^ 64
   pub begins : Begins v.seen all
+  pub heard : Begins v.heard all
+  pub alone : v.right ≡ Alone → all ≡ v.seen
   pub lawful : keeps_law law [] all ≡ true
   pub orderly : IsOrderly all
   pub writers : AreOf v.writers all
   pub reads : v.read ≤ stored_count all + most_held
   pub pen : (k : ℕ) → v.who ≡ Pen k → OwnIn v all k
 
--- a pen that has looked may store
+-- a pen that has looked, with the right of a pass, may store
 pub record Ready {I : Type 0} (law : Law I) (m : Sat I) (x : Stored I) (b : Held I) : Type 0 where
   pub hand : m.1 ≡ holding b
   pub ticket : ℕ
   pub turn : m.0.turn ≡ Has ticket
   pub who : m.0.who ≡ Pen x.writer
+  pub right : can_store m.0.right ≡ true
   pub block : m.0.block ≡ block_at x.first (length x.items)
   pub lawful : law x.writer m.0.own x.first x.items ≡ true
   pub stands : StandsFor m.0.all b

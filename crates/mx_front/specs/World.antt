@@ -11,6 +11,8 @@ use Rattle.mx_core.specs.Runs.{IsReached}
 use Rattle.mx_core.specs.State.{State, block_of, count_of}
 use Rattle.mx_lanes.specs.Held.{Held, StandsFor}
 use Rattle.mx_front.specs.declared.board.Key.{Key}
+use Rattle.mx_front.specs.declared.view.Right.{Right}
+use Rattle.mx_front.specs.declared.view.Right.TheVariants.{Nothing, Shared, Alone}
 use Rattle.mx_front.specs.declared.view.Role.{Role}
 use Rattle.mx_front.specs.declared.view.Role.TheVariants.{Reader, Maker, Pen}
 use Rattle.mx_front.specs.declared.view.Turn.{Turn}
@@ -23,7 +25,7 @@ abbrev pub Slot : Type 0 → Type 0
 Slot I = Option (Held I)
 
 -- the machine of positions and its pens: the seat of each pen, the seat that makes pens and how many it has made, the pens whose last
--- draw ended at the stop or past it, and the space that is set apart for each pen
+-- draw ended at the stop or past it, the space that is set apart for each pen, and the seat that alone may store, unless several may
 pub record Core (I : Type 0) : Type 0 where
   pub state : State I
   pub pen_of : ℕ → ℕ
@@ -31,6 +33,7 @@ pub record Core (I : Type 0) : Type 0 where
   pub made : ℕ
   pub over : ℕ → Bool
   pub space : ℕ → ℕ
+  pub alone : Option ℕ
 
 pub record World (I : Type 0) : Type 0 where
   pub line : Line (Held I)
@@ -117,6 +120,12 @@ Plays key w j mine held reserve read fresh Reader = Unit {0}
 Plays key w j mine held reserve read fresh (Maker k) = (w.maker ≡ j) × (w.made ≡ k)
 Plays key w j mine held reserve read fresh (Pen k) = PenOf key w j mine held reserve read fresh k
 
+-- whether a seat may store: the one that alone may has seen the whole history, and where others may none is alone
+abbrev pub Holds : {I : Type 0} → Core I → ℕ → List (Stored I) → Right → Type 0
+Holds w j seen Nothing = Unit {0}
+Holds w j seen Shared = w.alone ≡ None
+Holds w j seen Alone = (w.alone ≡ Some j) × (seen ≡ w.state.history)
+
 -- a seat knows a bound on the number of writers, what it has seen and heard of begins the history, and what it has read of the word was there
 pub record Knowing {I : Type 0} (key : Key) (w : Core I) (j : ℕ) (v : View I) : Type 0 where
   pub bound : key.writers ≤ v.writers
@@ -124,6 +133,7 @@ pub record Knowing {I : Type 0} (key : Key) (w : Core I) (j : ℕ) (v : View I) 
   pub hears : Begins v.heard w.state.history
   pub reads : v.read ≤ w.state.next
   pub plays : Plays key w j v.own v.block v.reserve v.read v.fresh v.who
+  pub holds : Holds w j v.seen v.right
 
 pub record Knows {I : Type 0} (key : Key) (w : World I) (j : ℕ) (v : View I) : Type 0 where
   pub core : Knowing key w.core j v
@@ -137,7 +147,7 @@ pub record Ruled {I : Type 0} (law : Law I) (key : Key) (s : table.State (Slot I
   pub good : Good law key world
   pub knows : (j : ℕ) (v : View I) → get_elem? s.views j ≡ maybe.some v → Knows key world j v
 
--- a seat that knows a bound on the number of writers alone, and the first seat
+-- a seat that knows a bound on the number of writers alone, the seat that makes the pens, and the first seat
 abbrev pub blank : {I : Type 0} → ℕ → Role → View I
 blank writers who = record {
   turn = Idle;
@@ -148,6 +158,7 @@ blank writers who = record {
   fresh = false;
   looks = 0;
   writers = writers;
+  right = Nothing;
   of = record {};
   seen = [];
   heard = [];
@@ -156,5 +167,8 @@ blank writers who = record {
   spares = [];
 }
 
+abbrev pub maker_of : {I : Type 0} → ℕ → ℕ → View I
+maker_of writers k = record (blank writers (Maker k)) { right = Alone }
+
 abbrev pub opening_view : {I : Type 0} → Key → View I
-opening_view key = blank key.writers (Maker 0)
+opening_view key = maker_of key.writers 0

@@ -5,8 +5,10 @@ ghost use Rattle.mx_core.specs.Orderly.{IsOrderly};
 ghost use Rattle.mx_core.proofs.Orders.{IsOrderly-prop};
 ghost use Rattle.mx_core.specs.History.{own, AreOf, keeps_law};
 ghost use Rattle.mx_core.proofs.Owns.{AreOf-prop};
+ghost use Rattle.mx_front.specs.declared.view.Right.TheVariants.{Nothing};
 ghost use Rattle.mx_front.specs.declared.view.Role.TheVariants as roles;
 ghost use Rattle.mx_front.specs.declared.view.Turn.TheVariants.{Idle};
+ghost use Rattle.mx_front.specs.Told.{can_store};
 
 use crate::board::Place;
 use mx_core::Placed;
@@ -38,6 +40,7 @@ pub struct Pen<I: Placed> {
     pub(crate) space: u64,
     ghost rests: { (seat.me.0.turn ≡ Idle) × (seat.me.1 ≡ []) },
     ghost writes: { seat.me.0.who ≡ roles.Pen writer },
+    ghost lends: { seat.me.0.right ≡ Nothing },
     ghost complete: { own seat.me.0.seen writer ≡ seat.me.0.own },
     ghost lawful: { keeps_law I.lawful [] seat.me.0.seen ≡ true },
     ghost orderly: { IsOrderly seat.me.0.seen } by { IsOrderly-prop seat.me.0.seen },
@@ -45,7 +48,7 @@ pub struct Pen<I: Placed> {
     ghost spaced: { space ≤ seat.me.0.reserve },
 }
 
-/// A reader of a stream. What it has seen is the beginning of the stream's history.
+/// A reader of a stream, with the right to store by its pens. What it has seen is the beginning of the stream's history.
 #[derive(Drop)]
 pub struct Pass<I: Placed> {
     pub(crate) seat: Place<I>,
@@ -55,4 +58,5 @@ pub struct Pass<I: Placed> {
     ghost orderly: { IsOrderly seat.me.0.seen } by { IsOrderly-prop seat.me.0.seen },
     ghost counted: { stores ≡ length seat.me.0.seen },
     ghost of_writers: { AreOf seat.me.0.writers seat.me.0.seen } by { AreOf-prop seat.me.0.writers seat.me.0.seen },
+    ghost stores_by: { can_store seat.me.0.right ≡ true },
 }

@@ -1,9 +1,10 @@
 //! A running stream: several writers draw blocks of positions without waiting for one another and store them in any
 //! order, and readers look at what is stored up to the front.
 //!
-//! A [`Pen`] is the right to store for one writer: `draw`, `reserve` and `finish` of [`Stream`] are its calls. A
+//! A [`Pen`] stores for one writer: `draw`, `reserve` and `finish` of [`Stream`] are its calls. A
 //! [`Pass`] is a reader: `look` gives it the items up to a front, `glance` lets it see as much without them, and
-//! `note` and `meet` let it see what a pen or another pass has seen.
+//! `note` and `meet` let it see what a pen or another pass has seen. Each store is made with a pass, so while there is
+//! one pass alone it has seen all that is stored.
 //!
 //! The law is `seats_see_one_history`: between any two steps, whatever the interleaving of the threads, there is one
 //! history, a state that a run of `mx_core`'s machine reaches. What each pen and pass has seen begins it, and the
@@ -30,4 +31,4 @@ pub use handles::{Drawn, Full, Pass, Pen};
 pub use laws::{seats_see_one_history, steps_keep_history, streams_cross_threads};
 pub use queue::{Owed, claim, come};
 pub use start::stream;
-pub use view::{Role, Turn, View};
+pub use view::{Right, Role, Turn, View};

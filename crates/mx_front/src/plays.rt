@@ -1,6 +1,6 @@
 //! What each step at a stream's table tells.
 
-ghost use Rattle.mx_front.specs.Told.{claimed, came, looked, glanced, read_next, drew, put, left, learned, next_maker, new_pen, same, reader_of, both, hearing, spent};
+ghost use Rattle.mx_front.specs.Told.{claimed, came, looked, glanced, read_next, drew, put, left, learned, next_maker, new_pen, same, reader_of, sharing, sharer_of, lending, lent, both, hearing, borrowing, spent};
 
 use crate::view::View;
 use atomic_table::{Join, Play, Split};
@@ -95,6 +95,30 @@ impl<I> Split<View<I>> for Parted {
     ghost right = { reader_of };
 }
 
+/// Two that share the right to store, in the place of one.
+pub struct Shared;
+
+impl<I> Split<View<I>> for Shared {
+    ghost left = { sharing };
+
+    ghost right = { sharer_of };
+}
+
+/// A right to store goes from one seat to another, with what the first has seen.
+pub struct Lent;
+
+impl<I> Split<View<I>> for Lent {
+    ghost left = { lending };
+
+    ghost right = { lent };
+}
+
+impl<I> Join<View<I>> for Lent {
+    ghost both = { borrowing };
+
+    ghost spent = { spent };
+}
+
 /// What both have seen and heard of.
 pub struct Met;
 
@@ -104,7 +128,7 @@ impl<I> Join<View<I>> for Met {
     ghost spent = { spent };
 }
 
-/// A pen hears of what a reader has seen.
+/// A seat hears of what another has seen.
 pub struct Heard;
 
 impl<I> Join<View<I>> for Heard {

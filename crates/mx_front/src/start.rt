@@ -1,11 +1,10 @@
 //! The start of a stream.
 
 ghost use Rattle.std.specs.Prelude.{◌≡◌, ◌+◌, ◌<◌, ◌≤◌, [], IfOk};
-ghost use Rattle.mx_front.specs.declared.view.Role.TheVariants as roles;
 ghost use Rattle.mx_front.specs.Shown.{place_of, stop_of, writers_of};
 ghost use Rattle.mx_front.specs.Start.{IsNewPen, IsNewPass, AreNewPens};
 ghost use Rattle.mx_core.specs.Limits.{most_writers, last_stop};
-ghost use Rattle.mx_front.specs.World.{blank};
+ghost use Rattle.mx_front.specs.World.{maker_of};
 
 use crate::board::{Board, Key, Place};
 use crate::front::Stream;
@@ -19,8 +18,8 @@ use std::alloc::{AllocError, Global};
 use std::sync::Mutex;
 
 /// A stream of 1 to 16 writers of which no block is drawn once `stop` positions were; with it the pens in the order
-/// of their writers, each without a store, a block or a reserve, and a pass. Pens and pass have seen nothing. `stop` is
-/// at most 281,474,976,694,272, which keeps every position below 2^48. `Memory` where the allocator refuses the table,
+/// of their writers, each without a store, a block or a reserve, and a pass. Pens and pass have seen nothing, and the pass
+/// alone may store. `stop` is at most 281,474,976,694,272, which keeps every position below 2^48. `Memory` where the allocator refuses the table,
 /// its book or the list of pens.
 pub fn stream<I: Placed + Drop>(
     alloc: Global,
@@ -58,7 +57,7 @@ fn open<I: Placed + Drop>(
     requires writers { (1 ≤ writers) × (writers ≤ most_writers) }
     requires stop { stop ≤ last_stop }
     ensures key { IfOk result (λ r. (stop_of r.0 ≡ stop) × (writers_of r.0 ≡ writers)) }
-    ensures maker { IfOk result (λ r. (r.1.table_id ≡ place_of r.0) × (r.1.me ≡ (blank (writers_of r.0) (roles.Maker 0), []))) }
+    ensures maker { IfOk result (λ r. (r.1.table_id ≡ place_of r.0) × (r.1.me ≡ (maker_of (writers_of r.0) 0, []))) }
 {
     let book = Book::new(alloc, writers)?;
     let mut slots = Vec::with_capacity(alloc, 1)?;
@@ -84,9 +83,9 @@ impl<I: Placed + Drop> Stream<I> {
     fn make_pen(&self, maker: &mut Place<I>, writer: u8) -> Pen<I>
         requires table { maker.old.table_id ≡ place_of self.now }
         requires writer { writer < writers_of self.now }
-        requires maker { maker.old.me ≡ (blank (writers_of self.now) (roles.Maker writer), []) }
+        requires maker { maker.old.me ≡ (maker_of (writers_of self.now) writer, []) }
         ensures table { maker.new.table_id ≡ maker.old.table_id }
-        ensures maker { maker.new.me ≡ (blank (writers_of self.now) (roles.Maker (writer + 1)), []) }
+        ensures maker { maker.new.me ≡ (maker_of (writers_of self.now) (writer + 1), []) }
         ensures pen { IsNewPen (place_of self.now) (writers_of self.now) writer result }
     {
         let seat = self.table.shared.split_seat::<plays::PenMade>(maker);

@@ -26,6 +26,16 @@ pub enum Role {
     Pen(u8),
 }
 
+/// Whether a seat may store. A pass has the right to; a pen has it of the pass with which it stores, while it stores.
+pub enum Right {
+    /// It may not.
+    Nothing,
+    /// It may, and so may others.
+    Shared,
+    /// It may, and no other seat may until this one is split.
+    Alone,
+}
+
 /// What a seat at a stream's table knows. No value of it is made: it is for contracts.
 pub struct View<I> {
     pub turn: Turn,
@@ -42,6 +52,8 @@ pub struct View<I> {
     pub looks: u64,
     /// Each store of the stream is of a writer below this number.
     pub writers: u8,
+    /// Whether it may store.
+    pub right: Right,
     of: PhantomData<Stored<I>>,
     /// The stores that it has seen.
     pub ghost seen: { List (Stored I) },

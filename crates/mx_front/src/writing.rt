@@ -2,13 +2,13 @@
 
 ghost use Rattle.std.specs.Prelude.{◌≡◌, ◌<◌, ◌≤◌, true, None, length, IfOk, IfErr, OnOk};
 ghost use Rattle.mx_core.specs.Limits.{most_drawn};
-ghost use Rattle.mx_front.specs.Calls.{Draws, Fills, Finishes, KeepsSpace};
-ghost use Rattle.mx_front.specs.Shown.{place_of, stop_of, known, number, place_of_pen};
-ghost use Rattle.mx_front.specs.Told.{block_at};
+ghost use Rattle.mx_front.specs.Calls.{Draws, Fills, Finishes, KeepsSpace, SeesStore};
+ghost use Rattle.mx_front.specs.Shown.{place_of, stop_of, known, number, place_of_pen, reads, place_of_pass};
+ghost use Rattle.mx_front.specs.Told.{block_at, borrowing, lending, lent};
 
-use crate::board::NEXT;
+use crate::board::{NEXT, Place};
 use crate::front::Stream;
-use crate::handles::{Drawn, Full, Pen};
+use crate::handles::{Drawn, Full, Pass, Pen};
 use crate::plays;
 use mx_core::Placed;
 use mx_ids::{Memory, Seq};
@@ -77,16 +77,26 @@ impl<I: Placed + Drop> Stream<I> {
     }
 
     /// Stores items at the block that a pen of this stream has drawn: as many as the block has positions, and lawful
-    /// after the stores of the pen's writer. Waits for its turn at the stream, and takes no memory. What the pen has
-    /// seen then ends with this store, and the answer is the front of that list.
-    pub fn finish<R: Wait>(&self, rt: &R, pen: &mut Pen<I>, drawn: Drawn, items: Seq<I>) -> u64
-        requires stream { place_of_pen pen.old ≡ place_of self.now }
+    /// after the stores of the pen's writer. The store is made with a pass of this stream. Waits for its turn at the stream,
+    /// and takes no memory. What the pen and the pass have seen then ends with this store, and the answer is the front of
+    /// that list. A pass that alone may store has then seen this store besides what it had seen, and no other.
+    pub fn finish<R: Wait>(
+        &self,
+        rt: &R,
+        pen: &mut Pen<I>,
+        pass: &mut Pass<I>,
+        drawn: Drawn,
+        items: Seq<I>,
+    ) -> u64
+        requires stream { (place_of_pen pen.old ≡ place_of self.now) × (place_of_pass pass.old ≡ place_of self.now) }
         requires block { (known pen.old).block ≡ block_at drawn.first drawn.count }
         requires count { drawn.count ≡ length items }
         requires lawful { I.lawful (number pen.old) (known pen.old).own drawn.first items ≡ true }
-        ensures stream { (place_of_pen pen.new ≡ place_of_pen pen.old) × (number pen.new ≡ number pen.old) }
+        ensures stream { (place_of_pen pen.new ≡ place_of_pen pen.old) × (number pen.new ≡ number pen.old) × (place_of_pass pass.new ≡ place_of_pass pass.old) }
         ensures stored { Finishes I.lawful (known pen.old) (record { writer = number pen.old; first = drawn.first; items = items }) result (known pen.new) }
+        ensures seen { SeesStore (reads pass.old) (record { writer = number pen.old; first = drawn.first; items = items }) (known pen.new) (reads pass.new) }
     {
+        self.lend(&mut pen.seat, &mut pass.seat);
         let door = self.door.lock(rt);
         let owed = self.seize(rt, &mut pen.seat, &mut pen.stores);
         let front = self.put_store(
@@ -98,7 +108,21 @@ impl<I: Placed + Drop> Stream<I> {
         );
         self.leave(&mut pen.seat, owed);
         drop(door);
+        self.lend(&mut pass.seat, &mut pen.seat);
+        pass.stores = pen.stores;
         pen.space = pen.space.saturating_sub(u64::from(drawn.count));
         front
+    }
+
+    /// A seat takes over the right to store of another, with what that has seen.
+    fn lend(&self, seat: &mut Place<I>, other: &mut Place<I>)
+        requires tables { (seat.old.table_id ≡ place_of self.now) × (other.old.table_id ≡ place_of self.now) }
+        ensures tables { (seat.new.table_id ≡ seat.old.table_id) × (other.new.table_id ≡ other.old.table_id) }
+        ensures other { other.new.me ≡ (lending other.old.me.0, other.old.me.1) }
+        ensures seat { seat.new.me ≡ (borrowing seat.old.me.0 (lent other.old.me.0), seat.old.me.1) }
+    {
+        let top = &self.table.shared;
+        let right = top.split_seat::<plays::Lent>(other);
+        top.join_seat::<plays::Lent>(seat, right);
     }
 }

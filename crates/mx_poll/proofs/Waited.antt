@@ -1,5 +1,5 @@
 -- A request that was answered at once, and a sync that waited.
-use Rattle.std.proofs.Common.{◌≡◌, ℕ, ◌+◌, ◌≤◌, Bool, false, true, Option, None, Some, refl, sym, subst, ◌∙◌}
+use Rattle.std.proofs.Common.{◌≡◌, ℕ, ◌+◌, ◌≤◌, Bool, false, Option, None, Some, refl, sym, subst, ◌∙◌}
 use Rattle.mx_ask.specs.declared.said.Said.{Said}
 use Rattle.mx_fold.specs.Lists.{Lists}
 use Rattle.mx_writers.specs.declared.gate.Gate.{Ghosts}

@@ -6,6 +6,7 @@ pub mod EnginePass
 pub mod Exchanges
 pub mod Mark
 pub mod Outer
+pub mod Places
 pub mod Shown
 pub mod Unstored
 pub mod UnstoredVariants

@@ -32,6 +32,9 @@ use Rattle.mx_pool.specs.declared.status.JournalFault.TheVariants as lacks
 use Rattle.mx_pool.specs.declared.status.Status.{Status}
 use Rattle.mx_pool.specs.declared.status.Status.TheVariants as status
 use Rattle.mx_words.specs.Words.{Loop, Pipe, Said, Serve, Way}
+use Rattle.mx_serve.proofs.Alone.{stores_are_own}
+use Rattle.mx_serve.proofs.OfEngine.Alone.{has_all}
+use Rattle.mx_serve.specs.OfEngine.Places.{HasAll}
 
 -- ---- no engine
 
@@ -141,9 +144,9 @@ module _ (b : Beginning) (left written : Change (Option (List ℕ))) (reads writ
       → ((calls : List Call) × IsServed site b.stops limit
       (moment [] left.before written.before b.lists clock.before.last (record { made = b.made; looks = looks; readings = clock.before.readings }))
       (moment [] left.after written.after (stores_of p) clock.after.last (tally p clock.after.readings)) calls ended.marks ended.end)
-      → AreValid (stores_of p) ended.marks → AreLawful (stores_of p) → InputFaults ended.end reads.before reads.after → OutputFaults ended.end writes.before writes.after → s ≡ status_of ended.end
+      → HasAll b.made b.lists → AreValid (stores_of p) ended.marks → AreLawful (stores_of p) → InputFaults ended.end reads.before reads.after → OutputFaults ended.end writes.before writes.after → s ≡ status_of ended.end
       → ServesFrom b site.users site.writers limit left written reads writes clock s ended p
-  serves_from site limit looks s h valid lawful input output is = record {
+  serves_from site limit looks s h all valid lawful input output is = record {
     calls = h.0;
     looks = looks;
     served = h.1;
@@ -152,6 +155,9 @@ module _ (b : Beginning) (left written : Change (Option (List ℕ))) (reads writ
     status_is = is;
     valid = valid;
     headline = connections_agree site b.stops (stores_of p) (counts_of b.lists) h.0 ended.marks h.1.turns lawful;
+    alone = stores_are_own site b.stops limit
+        (moment [] left.before written.before b.lists clock.before.last (record { made = b.made; looks = looks; readings = clock.before.readings }))
+        (moment [] left.after written.after (stores_of p) clock.after.last (tally p clock.after.readings)) h.0 ended.marks ended.end h.1 all (has_all p);
   }
 
 -- in mode `pipe` it was served on the journal's engine

@@ -23,6 +23,8 @@ use Rattle.mx_pool.specs.declared.status.Status.{Status}
 use Rattle.mx_pool.specs.declared.status.Status.TheVariants as status
 use Rattle.mx_words.specs.Words.{Help, Loop, Meaning, Pipe, Refused, Said, Says, Serve, Version, Way, Wrong}
 use Rattle.mx_serve.proofs.Chaining.{connections_agree}
+use Rattle.mx_serve.proofs.Alone.{stores_are_own}
+use Rattle.mx_serve.proofs.OfEngine.Alone.{has_all}
 
 module _ (users : Users) (workers limit : ℕ) (left written : Change (Option (List ℕ))) (reads writes : Change ℕ) (clock : Change Clocked) (ended : Ended) (p : EnginePass) where
   -- a connection of so many requests from these lists
@@ -50,6 +52,10 @@ module _ (users : Users) (workers limit : ℕ) (left written : Change (Option (L
         status_is = is;
         valid = valid;
         headline = connections_agree (site_for users workers) run_stops (stores_of p) (counts_of nothing) h.0 ended.marks h.1.turns lawful;
+        alone = stores_are_own (site_for users workers) run_stops limit
+            (moment [] left.before written.before nothing clock.before.last (record { made = none_made; looks = looks; readings = clock.before.readings }))
+            (moment [] left.after written.after (stores_of p) clock.after.last (tally p clock.after.readings)) h.0 ended.marks ended.end h.1
+            (record { events = λ e. refl; receipts = λ e. refl; accounts = λ e. refl }) (has_all p);
       }
 
 -- ---- a server

@@ -1,5 +1,5 @@
 -- What a run did, by its status.
-use Rattle.std.specs.Prelude.{◌≡◌, ℕ, ◌<◌, ◌≤◌, ◌⊎◌, List, [], ◌++◌, Ok, Err, Option, Some, None, length, IfSome, codes, decimal, true, ⊤}
+use Rattle.std.specs.Prelude.{◌≡◌, ℕ, ◌<◌, ◌≤◌, ◌⊎◌, List, [], Ok, Err, Option, Some, None, length, IfSome, codes, true, ⊤}
 use Rattle.std.specs.Io.KnownBytes.{Keeps, Appends}
 use Rattle.mx_outside.specs.Causes.{Rose}
 use Rattle.mx_ids.specs.Memory.{refused_memory}
@@ -11,6 +11,8 @@ use Rattle.mx_serve.specs.OfEngine.Answers.{Stops, nothing, stops_at, stops_with
 use Rattle.mx_serve.specs.Aims.Asked.{Site}
 use Rattle.mx_serve.specs.OfEngine.Shown.{Looks, all_started, none_made, stores_of}
 use Rattle.mx_serve.specs.OfEngine.Written.{Made}
+use Rattle.mx_serve.specs.OfEngine.Places.{IsAlone}
+use Rattle.mx_serve.specs.Places.{AreOwn}
 use Rattle.mx_loop.specs.declared.looping.Looped.{Looped}
 use Rattle.mx_loop.specs.declared.looping.Looped.TheVariants as looped
 use Rattle.mx_restore.specs.Restored.{Begins}
@@ -126,7 +128,7 @@ pub record IsOnJournal (told : Option (List ℕ)) (b : Beginning) : Type 0 where
   pub parted : (m : Made) × (b.made ≡ all_started m)
 
 -- one connection of so many requests was served for these users, from a beginning; what its pass has seen, made and looked at in the end is the
--- pass's that is given back
+-- pass's that is given back. Where no pass was split off on the way to it nobody else stored: the stores that came are those that the marks tell
 pub record ServesFrom (b : Beginning) (users : Users) (workers limit : ℕ) (left written : Change (Option (List ℕ))) (reads writes : Change ℕ) (clock : Change Clocked) (s : Status) (ended : Ended) (p : EnginePass) : Type 0 where
   pub calls : List Call
   pub looks : Looks
@@ -138,8 +140,9 @@ pub record ServesFrom (b : Beginning) (users : Users) (workers limit : ℕ) (lef
   pub status_is : s ≡ status_of ended.end
   pub valid : AreValid (stores_of p) ended.marks
   pub headline : Headline (site_for users workers) (stores_of p) calls ended.marks
+  pub alone : IsAlone b.made → AreOwn (site_for users workers) b.lists (stores_of p) calls ended.marks
 
--- the same on an engine without a store, by its first pass, with which nothing was made
+-- the same on an engine without a store, by its first pass, with which nothing was made, and from which none was split off
 abbrev pub ServesOne : Users → ℕ → ℕ → Change (Option (List ℕ)) → Change (Option (List ℕ)) → Change ℕ → Change ℕ → Change Clocked → Status → Ended → EnginePass → Type 0
 ServesOne users workers limit left written reads writes clock s ended p = ServesFrom from_nothing users workers limit left written reads writes clock s ended p
 

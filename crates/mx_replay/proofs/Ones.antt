@@ -1,5 +1,6 @@
 -- A write after which one store more was seen.
-use Rattle.std.proofs.Common.{◌≡◌, Bool, true, false, nat_eq, if◌then◌else◌, ℕ, ◌+◌, ◌<◌, List, [], ◌∷◌, ◌++◌, length, Ok, refl, sym, ap, ◌∙◌, subst, arith, length-append, append_assoc}
+use Rattle.std.proofs.Common.{◌≡◌, Bool, true, false, nat_eq, if◌then◌else◌, ℕ, ◌+◌, ◌<◌, List, [], ◌∷◌, ◌++◌, length, Ok, refl, sym, ap, ◌∙◌, subst, arith, inl, inr, length-append, append_assoc}
+use Rattle.std.proofs.lemmas.Bool.{cases_eq, eq-eqb, ne_eqb}
 use Rattle.std.proofs.lemmas.List.{append_cancel_left, append-nil}
 use Rattle.mx_core.specs.declared.history.Stored.{Stored}
 use Rattle.mx_core.specs.History.{own, Begins}
@@ -7,8 +8,9 @@ use Rattle.mx_core.proofs.Owns.{own-append}
 use Rattle.mx_front.specs.declared.view.View.{View}
 use Rattle.mx_writers.specs.declared.answers.Written.{Written}
 use Rattle.mx_writers.specs.Decision.{Decision, Placing, Stores, Keeps, Refuses, store_of}
-use Rattle.mx_writers.specs.Writes.{WritesBy, WritesSeen}
-use Rattle.mx_replay.specs.Replays.{HasReplayed}
+use Rattle.mx_writers.specs.Writes.{WritesBy, WritesSeen, stores_by}
+use Rattle.mx_replay.specs.Replays.{HasReplayed, stores_else}
+use Rattle.mx_replay.specs.declared.replaying.NotReplayed.{NotReplayed}
 
 -- ---- lists of one store
 
@@ -80,3 +82,17 @@ pub replayed : {I D E : Type 0} (place : Placing I) (decides : ℕ → List (Sto
     → HasReplayed place decides k first draft old.seen new.seen
 replayed place decides k stop first draft w old new wrote some there count =
     replayed_by place decides k stop first draft w old new wrote.pen wrote.mine (decides k wrote.mine draft) refl wrote.wrote wrote.before wrote.after wrote.seen some there count
+
+-- what a pass that alone may store has then seen
+pub stores_told : (E : Type 0) (w : Written) (n old new : ℕ) → (w.count ≡ 0 → n ≡ 0) × (0 < w.count → n ≡ 1) → new ≡ old + stores_by {E = E} (Ok w) → new ≡ old + n
+stores_told E w n old new told is = elim (cases_eq w.count 0) [
+  | inl none ↦
+      let by : stores_by {E = E} (Ok w) ≡ 0 = ap (λ b. let m : ℕ = if b then 0 else 1 in m) (eq-eqb w.count 0 none) in
+      omega (arith, is, by, told.0 none)
+  | inr some ↦
+      let by : stores_by {E = E} (Ok w) ≡ 1 = ap (λ b. let m : ℕ = if b then 0 else 1 in m) (ne_eqb w.count 0 some) in
+      omega (arith, is, by, told.1 (omega (arith, some)))
+]
+
+pub none_told : {E : Type 0} (r : NotReplayed E) (old new : ℕ) → stores_else r ≡ 0 → new ≡ old + 0 → new ≡ old + stores_else r
+none_told r old new none is = omega (arith, is, none)

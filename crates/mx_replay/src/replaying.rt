@@ -1,10 +1,11 @@
 //! One store that is made again.
 
-ghost use Rattle.std.specs.Prelude.{◌≡◌, ◌+◌, ◌<◌, ◌≤◌, OnOk};
+ghost use Rattle.std.specs.Prelude.{◌≡◌, ◌+◌, ◌<◌, ◌≤◌, length, OnOk};
 ghost use Rattle.mx_core.specs.History.{Begins};
+ghost use Rattle.mx_front.specs.declared.view.Right.TheVariants.{Alone};
 ghost use Rattle.mx_front.specs.Shown.{place_of, place_of_pass, reads, seen_by, writers_of};
 ghost use Rattle.mx_writers.specs.Shown.{stream_of};
-ghost use Rattle.mx_replay.specs.Replays.{HasReplayed};
+ghost use Rattle.mx_replay.specs.Replays.{HasReplayed, stores_else, stores_of};
 
 use mx_front::Pass;
 use mx_ids::Memory;
@@ -31,7 +32,7 @@ pub enum NotReplayed<E> {
 
 /// Makes a store again: what a writer decides on a draft, at a position. At `Ok` it is the one store that the pass has seen
 /// besides those that it had seen, and these have all stores of its writer that it was decided by. What it had seen begins what it has
-/// then seen. Where others store at the
+/// then seen. A pass that alone may store has then seen one store more at `Ok` and at `Elsewhere`, and else none. Where others store at the
 /// same time it answers `Elsewhere`, so nobody else is to store meanwhile.
 pub fn replay<F: Folds, R: Wait>(
     rt: &R,
@@ -47,6 +48,8 @@ pub fn replay<F: Folds, R: Wait>(
     ensures stream { place_of_pass pass.new ≡ place_of_pass pass.old }
     ensures begins { Begins (seen_by pass.old) (seen_by pass.new) }
     ensures read { (reads pass.old).read ≤ (reads pass.new).read }
+    ensures right { (reads pass.new).right ≡ (reads pass.old).right }
+    ensures alone { (reads pass.old).right ≡ Alone → length (seen_by pass.new) ≡ length (seen_by pass.old) + stores_of result }
     ensures replayed { OnOk result (HasReplayed F.Item.placed F.decides shard first draft (seen_by pass.old) (seen_by pass.new)) }
 {
     let before = pass.stores();
@@ -58,7 +61,8 @@ pub fn replay<F: Folds, R: Wait>(
 
 /// Whether a store was made at a position, and is the only one.
 fn in_place<E>(written: &Written, first: u64, before: u64, after: u64) -> Result<(), NotReplayed<E>>
-    ensures { OnOk result ((0 < written.now.count) × (written.now.first ≡ first) × (after ≡ before + 1)) }
+    ensures in_place { OnOk result ((0 < written.now.count) × (written.now.first ≡ first) × (after ≡ before + 1)) }
+    ensures stores { (written.now.count ≡ 0 → stores_of result ≡ 0) × (0 < written.now.count → stores_of result ≡ 1) }
 {
     if written.count == 0 {
         return Err(NotReplayed::Kept);
@@ -69,7 +73,10 @@ fn in_place<E>(written: &Written, first: u64, before: u64, after: u64) -> Result
     Ok(())
 }
 
-fn cause_of<E>(refused: Refused<E>) -> NotReplayed<E> {
+/// Why it isn't made again, where nothing was stored.
+fn cause_of<E>(refused: Refused<E>) -> NotReplayed<E>
+    ensures { stores_else result ≡ 0 }
+{
     match refused {
         Refused::Fault(fault, _) => NotReplayed::Fault(fault),
         Refused::Full(..) => NotReplayed::Full,

@@ -1,6 +1,5 @@
 -- An answer behind which the sink's count of faults goes on.
-use Rattle.std.proofs.Common.{◌≡◌, ℕ, ◌≤◌, Bool, false, true, arith}
-use Rattle.mx_outside.specs.Causes.{Rose}
+use Rattle.std.proofs.Common.{◌≡◌, ℕ, ◌≤◌, false, true, arith}
 use Rattle.mx_poll.proofs.Watching.{rose_from}
 use Rattle.mx_serve.specs.declared.ended.End.{End}
 use Rattle.mx_serve.specs.declared.ended.End.TheVariants as end

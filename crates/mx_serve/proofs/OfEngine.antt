@@ -1,3 +1,4 @@
+pub mod Alone
 pub mod Crosses
 pub mod Done
 pub mod Known

@@ -1,5 +1,5 @@
 -- What is made, looked at and read over the calls of a connection, with one call more.
-use Rattle.std.proofs.Common.{◌≡◌, ℕ, ◌+◌, ◌≤◌, ◌||◌, List, [], ◌∷◌, ◌++◌, Bool, true, false, ◌⊎◌, cond, inl, inr, Option, refl, sym, ap, ◌∙◌, subst, arith, append-nil, append_assoc, add-zero}
+use Rattle.std.proofs.Common.{◌≡◌, ℕ, ◌+◌, ◌||◌, List, [], ◌∷◌, ◌++◌, Bool, true, false, ◌⊎◌, cond, inl, inr, Option, refl, sym, ap, ◌∙◌, subst, arith, append-nil, append_assoc}
 use Rattle.std.specs.Io.KnownBytes.{Keeps}
 use Rattle.std.proofs.KnownBytes.{Keeps-refl}
 use Rattle.mx_http.specs.declared.call.Call.{Call}
@@ -10,7 +10,7 @@ use Rattle.mx_poll.specs.Aims.Asked.{Site}
 use Rattle.mx_ask.specs.declared.ask.Ask.{Ask}
 use Rattle.mx_ask.specs.declared.ask.Who.{Who}
 use Rattle.mx_ask.specs.declared.said.Said.TheVariants as said
-use Rattle.mx_poll.specs.OfEngine.Answers.{IsAnswered, Stops, answer_to, counts, counts_of, made_for}
+use Rattle.mx_poll.specs.OfEngine.Answers.{IsAnswered, Stops, counts, counts_of, made_for}
 use Rattle.mx_poll.specs.OfEngine.Exchanges.{first_of}
 use Rattle.mx_poll.specs.OfEngine.Shown.{Looks, LooksBy, LooksFor, is_whoami, looks_of, made_of, stores_of}
 use Rattle.mx_poll.specs.OfEngine.Written.{Made}

@@ -1,8 +1,9 @@
 -- What a write answers and leaves.
-use Rattle.std.specs.Prelude.{◌≡◌, ℕ, ◌<◌, ◌≤◌, Bool, true, List, [], ◌∷◌, ◌++◌, Option, Some, None, Result, Ok, Err, length, nat_eq, if◌then◌else◌}
+use Rattle.std.specs.Prelude.{◌≡◌, ℕ, ◌+◌, ◌<◌, ◌≤◌, Bool, true, List, [], ◌∷◌, ◌++◌, Option, Some, None, Result, Ok, Err, length, nat_eq, if◌then◌else◌}
 use Rattle.mx_core.specs.declared.history.Stored.{Stored}
 use Rattle.mx_core.specs.Front.{IsFront}
 use Rattle.mx_core.specs.History.{own, Begins}
+use Rattle.mx_front.specs.declared.view.Right.TheVariants.{Alone}
 use Rattle.mx_front.specs.declared.view.View.{View}
 use Rattle.mx_writers.specs.declared.answers.Written.{Written}
 use Rattle.mx_writers.specs.declared.answers.Refused.{Refused}
@@ -44,6 +45,20 @@ abbrev pub MayLose : {E : Type 0} → Bool → Result Written (Refused E) → Ty
 MayLose loses (Err (Lost m)) = loses ≡ true
 MayLose loses answer = Unit {0}
 
+-- how many stores a write made
+abbrev pub stores_by : {E : Type 0} → Result Written (Refused E) → ℕ
+stores_by (Ok w) = if nat_eq w.count 0 then 0 else 1
+stores_by (Err e) = 0
+
+-- what a write leaves of the pass that its store is made with, if it makes one. Where the pass alone may store it sees no other store
+pub record IsBeside {I E : Type 0} (answer : Result Written (Refused E)) (old new : View I) : Type 0 where
+  pub begins : Begins old.seen new.seen
+  pub alone : old.right ≡ Alone → length new.seen ≡ length old.seen + stores_by answer
+  pub right : new.right ≡ old.right
+  pub fewer : new.writers ≤ old.writers
+  pub read : new.read ≡ old.read
+  pub looks : new.looks ≡ old.looks
+
 -- a write in the turn of the writer k, with what its pass has seen before and after: `mine` are the writer's stores when its turn began,
 -- and `pen` is what its pen knows when the turn ends
 pub record WritesSeen {I D E : Type 0} (place : Placing I) (decides : ℕ → List (Stored I) → D → Decision I E) (k stop : ℕ) (draft : D)
@@ -61,6 +76,9 @@ pub record WritesSeen {I D E : Type 0} (place : Placing I) (decides : ℕ → Li
   pub kept : old.read ≤ new.read
   pub read : pen.read ≤ new.read
   pub looks : new.looks ≡ old.looks
+  pub right : new.right ≡ old.right
+  -- a pass that alone may store has seen the store that was made besides what it had seen, and no other
+  pub alone : old.right ≡ Alone → length new.seen ≡ length old.seen + stores_by answer
 
 -- what a gate is told by a write: the writer and the first position, exactly where the answer is a store
 abbrev pub told_by : {E : Type 0} → ℕ → Result Written (Refused E) → Option (ℕ × ℕ)

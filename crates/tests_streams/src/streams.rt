@@ -63,16 +63,17 @@ fn finish_one<R: Wait + Abort>(
     alloc: Global,
     stream: &Stream<Number>,
     pen: &mut Pen<Number>,
+    pass: &mut Pass<Number>,
     drawn: Drawn,
     value: u64,
 ) -> u64
-    requires stream { place_of_pen pen.old ≡ place_of stream.now }
+    requires stream { (place_of_pen pen.old ≡ place_of stream.now) × (place_of_pass pass.old ≡ place_of stream.now) }
     requires block { (drawn.count ≡ 1) × ((known pen.old).block ≡ block_at drawn.first drawn.count) }
-    ensures stream { place_of_pen pen.new ≡ place_of_pen pen.old }
+    ensures stream { (place_of_pen pen.new ≡ place_of_pen pen.old) × (place_of_pass pass.new ≡ place_of_pass pass.old) }
     ensures free { (known pen.new).block ≡ None }
 {
     let items = one(alloc, value).expect(rt, "memory");
-    stream.finish(rt, pen, drawn, items)
+    stream.finish(rt, pen, pass, drawn, items)
 }
 
 /// The pen of the first writer.
@@ -83,13 +84,15 @@ fn first_pen(stream: &Stream<Number>, pens: Seq<Pen<Number>>) -> Pen<Number>
     three(stream, pens).0
 }
 
-/// A pen of a stream with a block of one position.
+/// A pen of a stream with a block of one position, and a pass with which it stores.
 #[derive(Drop)]
 struct Holder<'a> {
     stream: &'a Stream<Number>,
     pen: Pen<Number>,
+    pass: Pass<Number>,
     drawn: Drawn,
     ghost place: { place_of_pen pen ≡ place_of stream.now },
+    ghost reads: { place_of_pass pass ≡ place_of stream.now },
     ghost block: { (drawn.count ≡ 1) × ((known pen).block ≡ block_at drawn.first drawn.count) },
 }
 
@@ -97,12 +100,20 @@ fn holding<'a, R: Wait + Abort>(
     rt: &R,
     stream: &'a Stream<Number>,
     mut pen: Pen<Number>,
+    from: &mut Pass<Number>,
 ) -> Holder<'a>
-    requires stream { place_of_pen pen ≡ place_of stream.now }
+    requires stream { (place_of_pen pen ≡ place_of stream.now) × (place_of_pass from.old ≡ place_of stream.now) }
     requires free { (known pen).block ≡ None }
+    ensures { place_of_pass from.new ≡ place_of_pass from.old }
 {
     let drawn = draw_one(rt, stream, &mut pen).expect(rt, "space");
-    Holder { stream, pen, drawn }
+    let pass = stream.pass(from).expect(rt, "memory");
+    Holder {
+        stream,
+        pen,
+        pass,
+        drawn,
+    }
 }
 
 /// The holders of the positions 1, 2 and 3.
@@ -110,13 +121,16 @@ fn three_holding<'a, R: Wait + Abort>(
     rt: &R,
     stream: &'a Stream<Number>,
     pens: Seq<Pen<Number>>,
+    pass: &mut Pass<Number>,
 ) -> (Holder<'a>, Holder<'a>, Holder<'a>)
-    requires { AreNewPens (place_of stream.now) (writers_of stream.now) 3 pens }
+    requires pens { AreNewPens (place_of stream.now) (writers_of stream.now) 3 pens }
+    requires pass { place_of_pass pass.old ≡ place_of stream.now }
+    ensures { place_of_pass pass.new ≡ place_of_pass pass.old }
 {
     let (first, second, third) = three(stream, pens);
-    let first = holding(rt, stream, first);
-    let second = holding(rt, stream, second);
-    let third = holding(rt, stream, third);
+    let first = holding(rt, stream, first, pass);
+    let second = holding(rt, stream, second, pass);
+    let third = holding(rt, stream, third, pass);
     assert_eq!(rt;
         (first.drawn.first, second.drawn.first, third.drawn.first),
         (1, 2, 3)
@@ -129,9 +143,10 @@ fn front_after<R: Wait + Abort>(rt: &R, alloc: Global, holder: Holder<'_>, value
     let Holder {
         stream,
         mut pen,
+        mut pass,
         drawn,
     } = holder;
-    finish_one(rt, alloc, stream, &mut pen, drawn, value)
+    finish_one(rt, alloc, stream, &mut pen, &mut pass, drawn, value)
 }
 
 /// A store above a gap is seen, and leaves the front at 0.
@@ -153,7 +168,7 @@ fn expect_store_ahead<R: Wait + Abort>(
 fn stores_out_of_order_move_the_front(rt: HostRuntime) {
     let alloc = rt.alloc();
     let (stream, pens, mut pass) = stream::<Number>(alloc, 3, 4).expect(&rt, "memory");
-    let (first, second, third) = three_holding(&rt, &stream, pens);
+    let (first, second, third) = three_holding(&rt, &stream, pens, &mut pass);
     expect_store_ahead(&rt, alloc, &stream, &mut pass, third);
     assert_eq!(rt; front_after(&rt, alloc, first, 10), 1);
     assert_eq!(rt; front_after(&rt, alloc, second, 20), 3);
@@ -167,20 +182,27 @@ fn expect_last_position<R: Wait + Abort>(rt: &R, alloc: Global, holder: Holder<'
     let Holder {
         stream,
         mut pen,
+        mut pass,
         drawn,
     } = holder;
-    assert_eq!(rt; finish_one(rt, alloc, stream, &mut pen, drawn, 20), 3);
+    assert_eq!(rt;
+        finish_one(rt, alloc, stream, &mut pen, &mut pass, drawn, 20),
+        3
+    );
     let last = draw_one(rt, stream, &mut pen).expect(rt, "space");
     assert_eq!(rt; last.first, 4);
-    assert_eq!(rt; finish_one(rt, alloc, stream, &mut pen, last, 40), 4);
+    assert_eq!(rt;
+        finish_one(rt, alloc, stream, &mut pen, &mut pass, last, 40),
+        4
+    );
     assert_eq!(rt; draw_one(rt, stream, &mut pen), Err(Full { next: 4 }));
 }
 
 #[test]
 fn the_last_position_below_the_stop_is_drawn_and_then_none(rt: HostRuntime) {
     let alloc = rt.alloc();
-    let (stream, pens, pass) = stream::<Number>(alloc, 3, 4).expect(&rt, "memory");
-    let (first, second, third) = three_holding(&rt, &stream, pens);
+    let (stream, pens, mut pass) = stream::<Number>(alloc, 3, 4).expect(&rt, "memory");
+    let (first, second, third) = three_holding(&rt, &stream, pens, &mut pass);
     assert_eq!(rt; front_after(&rt, alloc, third, 30), 0);
     assert_eq!(rt; front_after(&rt, alloc, first, 10), 1);
     expect_last_position(&rt, alloc, second);
@@ -194,12 +216,13 @@ fn expect_one_position<R: Wait + Abort>(
     alloc: Global,
     stream: &Stream<Number>,
     pen: &mut Pen<Number>,
+    pass: &mut Pass<Number>,
 )
-    requires stream { place_of_pen pen.old ≡ place_of stream.now }
+    requires stream { (place_of_pen pen.old ≡ place_of stream.now) × (place_of_pass pass.old ≡ place_of stream.now) }
     requires free { (known pen.old).block ≡ None }
 {
     let drawn = draw_one(rt, stream, pen).expect(rt, "space");
-    assert_eq!(rt; finish_one(rt, alloc, stream, pen, drawn, 10), 1);
+    assert_eq!(rt; finish_one(rt, alloc, stream, pen, pass, drawn, 10), 1);
     assert_eq!(rt; draw_one(rt, stream, pen), Err(Full { next: 1 }));
 }
 
@@ -216,9 +239,9 @@ fn a_stream_without_positions_is_full(rt: HostRuntime) {
 #[test]
 fn a_stream_is_full_once_its_positions_are_drawn(rt: HostRuntime) {
     let alloc = rt.alloc();
-    let (stream, pens, pass) = stream::<Number>(alloc, 3, 1).expect(&rt, "memory");
+    let (stream, pens, mut pass) = stream::<Number>(alloc, 3, 1).expect(&rt, "memory");
     let mut first = first_pen(&stream, pens);
-    expect_one_position(&rt, alloc, &stream, &mut first);
+    expect_one_position(&rt, alloc, &stream, &mut first, &mut pass);
     drop(first);
     drop(pass);
     drop(stream);
@@ -239,8 +262,8 @@ fn fronts<R: Wait + Abort>(
 
 /// The fronts where the pen of one writer stores after the two others.
 fn fronts_with_held<R: Wait + Abort>(rt: &R, alloc: Global, held: u8) -> (u64, u64, u64) {
-    let (stream, pens, pass) = stream::<Number>(alloc, 3, 4).expect(rt, "memory");
-    let (first, second, third) = three_holding(rt, &stream, pens);
+    let (stream, pens, mut pass) = stream::<Number>(alloc, 3, 4).expect(rt, "memory");
+    let (first, second, third) = three_holding(rt, &stream, pens, &mut pass);
     let found = match held {
         0 => fronts(rt, alloc, second, third, first),
         1 => fronts(rt, alloc, first, third, second),
@@ -273,7 +296,7 @@ fn store_noted<R: Wait + Abort>(
     ensures { place_of_pass pass.new ≡ place_of_pass pass.old }
 {
     let drawn = draw_one(rt, stream, pen).expect(rt, "space");
-    assert_eq!(rt; finish_one(rt, alloc, stream, pen, drawn, 10), 1);
+    assert_eq!(rt; finish_one(rt, alloc, stream, pen, pass, drawn, 10), 1);
     assert!(rt; stream.note(pen, pass).is_ok());
 }
 
@@ -291,22 +314,24 @@ fn passes_meet_and_note(rt: HostRuntime) {
     drop(stream);
 }
 
-/// The numbers of stores that a pass has seen: after a glance at no store, after one at a first store, and after one more.
+/// The numbers of stores that a pass has seen: after a glance at no store, after one at a first store, which is made with another pass,
+/// and after one more.
 fn glances<R: Wait + Abort>(
     rt: &R,
     alloc: Global,
     stream: &Stream<Number>,
     pen: &mut Pen<Number>,
+    other: &mut Pass<Number>,
     pass: &mut Pass<Number>,
 ) -> (u64, u64, u64)
     requires pen { place_of_pen pen.old ≡ place_of stream.now }
     requires free { (known pen.old).block ≡ None }
-    requires pass { place_of_pass pass.old ≡ place_of stream.now }
+    requires passes { (place_of_pass other.old ≡ place_of stream.now) × (place_of_pass pass.old ≡ place_of stream.now) }
 {
     stream.glance(pass);
     let before = pass.stores();
     let drawn = draw_one(rt, stream, pen).expect(rt, "space");
-    finish_one(rt, alloc, stream, pen, drawn, 10);
+    finish_one(rt, alloc, stream, pen, other, drawn, 10);
     stream.glance(pass);
     let after = pass.stores();
     stream.glance(pass);
@@ -318,7 +343,9 @@ fn a_glance_sees_what_was_stored(rt: HostRuntime) {
     let alloc = rt.alloc();
     let (stream, pens, mut pass) = stream::<Number>(alloc, 3, 4).expect(&rt, "memory");
     let mut first = first_pen(&stream, pens);
-    let seen = glances(&rt, alloc, &stream, &mut first, &mut pass);
+    let mut other = stream.pass(&mut pass).expect(&rt, "memory");
+    let seen = glances(&rt, alloc, &stream, &mut first, &mut other, &mut pass);
+    drop(other);
     drop(first);
     drop(pass);
     drop(stream);
@@ -356,7 +383,7 @@ fn after_blocks<R: Wait + Abort>(
         stream.reserve(rt, pen, 512).expect(rt, "memory");
         let drawn = stream.draw(pen, 512).expect(rt, "space");
         let items = numbers(alloc).expect(rt, "memory");
-        stream.finish(rt, pen, drawn, items);
+        stream.finish(rt, pen, pass, drawn, items);
     }
     stream.look(rt, alloc, pass).expect(rt, "memory")
 }
@@ -404,7 +431,7 @@ fn expect_still_seen<R: Wait + Abort>(
 fn a_look_covers_no_later_store(rt: HostRuntime) {
     let alloc = rt.alloc();
     let (stream, pens, mut pass) = stream::<Number>(alloc, 3, 4).expect(&rt, "memory");
-    let (first, second, third) = three_holding(&rt, &stream, pens);
+    let (first, second, third) = three_holding(&rt, &stream, pens, &mut pass);
     assert_eq!(rt; front_after(&rt, alloc, third, 30), 0);
     assert_eq!(rt; front_after(&rt, alloc, first, 10), 1);
     let seen = stream.look(&rt, alloc, &mut pass).expect(&rt, "memory");
@@ -414,23 +441,29 @@ fn a_look_covers_no_later_store(rt: HostRuntime) {
     drop(stream);
 }
 
-/// A pen of a stream without a block.
+/// A pen of a stream without a block, and a pass with which it stores.
 #[derive(Drop)]
 struct Writer<'a> {
     stream: &'a Stream<Number>,
     pen: Pen<Number>,
+    pass: Pass<Number>,
     ghost place: { place_of_pen pen ≡ place_of stream.now },
+    ghost reads: { place_of_pass pass ≡ place_of stream.now },
     ghost free: { (known pen).block ≡ None },
 }
 
 /// Stores the numbers from `from` to `from + 69`, one at a time: more than space is made for at once.
 fn seventy<R: Wait + Abort>(rt: &R, alloc: Global, writer: Writer<'_>, from: u64) -> bool {
-    let Writer { stream, mut pen } = writer;
+    let Writer {
+        stream,
+        mut pen,
+        mut pass,
+    } = writer;
     'writes: for more in 0..70u64 {
         let Ok(drawn) = draw_one(rt, stream, &mut pen) else {
             return false;
         };
-        finish_one(rt, alloc, stream, &mut pen, drawn, from | more);
+        finish_one(rt, alloc, stream, &mut pen, &mut pass, drawn, from | more);
     }
     true
 }
@@ -454,15 +487,23 @@ fn expect_seventy_each<R: Threads + Wait + Abort + Sync>(
     alloc: Global,
     stream: &Stream<Number>,
     pens: Seq<Pen<Number>>,
+    pass: &mut Pass<Number>,
 )
-    requires { AreNewPens (place_of stream.now) (writers_of stream.now) 3 pens }
+    requires pens { AreNewPens (place_of stream.now) (writers_of stream.now) 3 pens }
+    requires pass { place_of_pass pass.old ≡ place_of stream.now }
+    ensures { place_of_pass pass.new ≡ place_of_pass pass.old }
 {
     let (first, second, third) = three(stream, pens);
     drop(third);
-    let one = Writer { stream, pen: first };
+    let one = Writer {
+        stream,
+        pen: first,
+        pass: stream.pass(pass).expect(rt, "memory"),
+    };
     let two = Writer {
         stream,
         pen: second,
+        pass: stream.pass(pass).expect(rt, "memory"),
     };
     assert_eq!(rt; seventy_each(rt, alloc, one, two), (true, true));
 }
@@ -471,7 +512,7 @@ fn expect_seventy_each<R: Threads + Wait + Abort + Sync>(
 fn threads_store_side_by_side(rt: HostRuntime) {
     let alloc = rt.alloc();
     let (stream, pens, mut pass) = stream::<Number>(alloc, 3, 1000).expect(&rt, "memory");
-    expect_seventy_each(&rt, alloc, &stream, pens);
+    expect_seventy_each(&rt, alloc, &stream, pens, &mut pass);
     let parts = stream.look(&rt, alloc, &mut pass).expect(&rt, "memory");
     assert_eq!(rt; (parts.stores(), parts.front()), (140, 140));
     assert_eq!(rt; ends_of_runs(&parts, 0, 1024), (70, 1094));

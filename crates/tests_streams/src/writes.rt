@@ -70,15 +70,16 @@ fn expect_write_in<R: Wait + Abort>(
     alloc: Global,
     stream: &Stream<Number>,
     shard: &mut Shard<Numbers>,
+    pass: &mut Pass<Number>,
     draft: u64,
     answer: Result<Written, Refused<Zero>>,
 )
-    requires { place_of_shard shard.old ≡ place_of stream.now }
-    ensures { place_of_shard shard.new ≡ place_of_shard shard.old }
+    requires { (place_of_shard shard.old ≡ place_of stream.now) × (place_of_pass pass.old ≡ place_of stream.now) }
+    ensures { (place_of_shard shard.new ≡ place_of_shard shard.old) × (place_of_pass pass.new ≡ place_of_pass pass.old) }
 {
     let mut watch = Watch::new(&Open);
     assert_eq!(rt;
-        write_in(rt, alloc, stream, shard, draft, &mut watch),
+        write_in(rt, alloc, stream, shard, draft, &mut watch, pass),
         answer
     );
 }
@@ -88,12 +89,22 @@ fn expect_own_stores<R: Wait + Abort>(
     alloc: Global,
     stream: &Stream<Number>,
     first: &mut Shard<Numbers>,
+    pass: &mut Pass<Number>,
 )
-    requires { place_of_shard first.old ≡ place_of stream.now }
+    requires { (place_of_shard first.old ≡ place_of stream.now) × (place_of_pass pass.old ≡ place_of stream.now) }
+    ensures { place_of_pass pass.new ≡ place_of_pass pass.old }
 {
-    expect_write_in(rt, alloc, stream, first, 5, stored(1, 0, 1));
-    expect_write_in(rt, alloc, stream, first, 0, Err(Refused::Fault(Zero, 1)));
-    expect_write_in(rt, alloc, stream, first, 7, stored(2, 1, 2));
+    expect_write_in(rt, alloc, stream, first, pass, 5, stored(1, 0, 1));
+    expect_write_in(
+        rt,
+        alloc,
+        stream,
+        first,
+        pass,
+        0,
+        Err(Refused::Fault(Zero, 1)),
+    );
+    expect_write_in(rt, alloc, stream, first, pass, 7, stored(2, 1, 2));
 }
 
 #[test]
@@ -101,7 +112,7 @@ fn a_writer_decides_on_its_own_stores(rt: HostRuntime) {
     let alloc = rt.alloc();
     let (stream, pens, mut pass) = stream::<Number>(alloc, 2, 10).expect(&rt, "memory");
     let mut first = first_shard(alloc, &stream, pens).expect(&rt, "memory");
-    expect_own_stores(&rt, alloc, &stream, &mut first);
+    expect_own_stores(&rt, alloc, &stream, &mut first, &mut pass);
     expect_items(&rt, alloc, &stream, &mut pass, 2, &[5, 7]);
     drop(first);
     drop(pass);

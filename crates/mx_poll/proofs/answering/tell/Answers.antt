@@ -1,4 +1,4 @@
-use Rattle.std.proofs.Common.{refl, subst, sym}
+use Rattle.std.proofs.Common.{subst, sym}
 use Rattle.mx_engine.specs.Acts.Acts.{Reads}
 use Rattle.mx_engine.specs.Shown.{IsDoneBy, stops_of, stores_of}
 use Rattle.mx_engine.specs.declared.held.EnginePass.{EnginePass}

@@ -1,5 +1,6 @@
 use Rattle.mx_serve.specs.OfEngine.Shown.{looks_of, made_of, site_of, stops_of, stores_of}
 use Rattle.mx_pool.specs.Connections.{change, clocked}
+use Rattle.mx_serve.proofs.OfEngine.Alone.{has_all}
 use Rattle.mx_pool.proofs.Journaled.{serves_from}
 use Rattle.mx_pool.proofs.kept.pipe_on.Goals as goal
 
@@ -14,4 +15,4 @@ returns-clause-served g c =
     (change (g.K.Sink.faults c.args.output.now) (g.K.Sink.faults done.new.output))
     (change (clocked (g.C.Clock.last c.args.clock.now) (g.C.Clock.readings c.args.clock.now)) (clocked (g.C.Clock.last done.new.clock) (g.C.Clock.readings done.new.clock)))
     done.result done.new.pass (site_of server.engine) server.limit (looks_of c.args.pass) c.status_of-status.result
-    done.ensures.served done.ensures.valid done.ensures.lawful done.ensures.reads done.ensures.writes c.status_of-status.ensures
+    done.ensures.served (has_all c.args.pass) done.ensures.valid done.ensures.lawful done.ensures.reads done.ensures.writes c.status_of-status.ensures

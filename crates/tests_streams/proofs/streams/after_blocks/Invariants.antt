@@ -1,6 +1,6 @@
 use Rattle.std.proofs.Common.{◌≡◌, None}
-use Rattle.mx_front.specs.Shown.{place_of, place_of_pen, known}
+use Rattle.mx_front.specs.Shown.{place_of, place_of_pen, place_of_pass, known}
 use Rattle.tests_streams.proofs.streams.after_blocks.Given as goal
 
 abbrev pub invariant-stores : goal.invariant-stores
-invariant-stores g l = (place_of_pen l.pen ≡ place_of l.stream) × ((known l.pen).block ≡ None)
+invariant-stores g l = (place_of_pen l.pen ≡ place_of l.stream) × ((known l.pen).block ≡ None) × (place_of_pass l.pass ≡ place_of l.stream)

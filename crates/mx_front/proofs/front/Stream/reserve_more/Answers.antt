@@ -12,6 +12,7 @@ invariant_of-pen g c =
     let r = reserved g.I.Placed.lawful _ _ _ _ _ _ c.enter-owed.ensures.entered c.args.pen.now.writes c.more_space-made.ensures.grown c.leave.ensures.left in record {
       rests = r.rests;
       writes = r.writes;
+      lends = r.right ∙ c.args.pen.now.lends;
       complete = ap (λ l. own l c.args.pen.now.writer) r.keeps_space.seen ∙ c.args.pen.now.complete ∙ sym r.keeps_space.own_is;
       lawful = search (rules, r.keeps_space.seen);
       orderly = subst IsOrderly (sym r.keeps_space.seen) c.args.pen.now.orderly;

@@ -1,4 +1,4 @@
-use Rattle.std.proofs.Common.{◌≡◌, subst, ap, ◌∙◌}
+use Rattle.std.proofs.Common.{subst, ap, ◌∙◌}
 use Rattle.mx_ids.specs.declared.users.Users.{Users}
 use Rattle.mx_poll.specs.OfEngine.Shown.{site_of, stops_of}
 use Rattle.mx_serve.specs.Asked.{call_asked}

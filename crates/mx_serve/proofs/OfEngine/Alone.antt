@@ -1,0 +1,1 @@
+pub use Rattle.mx_poll.proofs.OfEngine.Alone.{has_all}
