@@ -1,5 +1,4 @@
 -- A run by what its words ask, in each case of their reading.
-use Rattle.std.specs.Io.KnownBytes.{Keeps}
 use Rattle.std.proofs.Common.{◌≡◌, ◌⊎◌, ℕ, List, Option, Some, None, [], inl, inr, sym, subst, ◌∙◌}
 use Rattle.mx_serve.specs.OfEngine.EnginePass.{EnginePass}
 use Rattle.mx_serve.specs.declared.ended.Ended.{Ended}
@@ -7,7 +6,7 @@ use Rattle.mx_ids.specs.Memory.{refused_memory}
 use Rattle.mx_pool.specs.declared.status.Status.{Status}
 use Rattle.mx_pool.specs.declared.status.Status.TheVariants as status
 use Rattle.mx_pool.specs.Lines.{Tells, line_of, shown}
-use Rattle.mx_pool.specs.Runs.{IsPrinted, IsRan, IsRefused, IsShort, IsUnserved, RanBy, ServesAll, ServesAt, TellsRun, TellsWith, World}
+use Rattle.mx_pool.specs.Runs.{IsPrinted, IsRan, IsRefused, IsShort, RanBy, ServesAll, ServesAt, TellsRun, TellsWith, World}
 use Rattle.mx_words.specs.Words.{Help, Meaning, Refused, Said, Says, Version, Wrong}
 use Rattle.mx_pool.proofs.Outcomes.{same_memory}
 

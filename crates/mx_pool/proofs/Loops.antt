@@ -1,5 +1,5 @@
 -- A server that serves by loops: its status and its lines.
-use Rattle.std.proofs.Common.{◌≡◌, ◌⊎◌, ℕ, List, Option, Some, None, inl, inr, refl, sym, subst, ◌∙◌}
+use Rattle.std.proofs.Common.{◌≡◌, ◌⊎◌, ℕ, List, Option, Some, inl, inr, sym, subst, ◌∙◌}
 use Rattle.mx_ids.specs.Memory.{refused_memory}
 use Rattle.mx_loop.specs.Looped.{EndsFor}
 use Rattle.mx_loop.specs.declared.looping.Looped.{Looped}

@@ -112,7 +112,7 @@ where
 }
 
 /// A server for the users of the file, on the journal of a name; or the status of a run that has none, which is told.
-fn kept_server<F: Files, J: Logs, E: Sink, R: Wait>(
+fn kept_server<F: Files, J: Logs, E: Sink, R: Wait + Threads>(
     rt: &R,
     alloc: Global,
     words: &Words,

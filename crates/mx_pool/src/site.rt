@@ -19,6 +19,7 @@ use mx_writers::Open;
 use std::alloc::Global;
 use std::rt;
 use std::sync::Wait;
+use std::thread::Threads;
 
 /// No block of a stream is drawn once so many positions were.
 const STOP: u64 = 281_474_976_694_272;
@@ -74,7 +75,7 @@ pub(crate) fn server_for(
 }
 
 /// A server of so many requests a connection on an engine with so many writers a stream, on the journal of a name, and a pass of the engine.
-pub(crate) fn server_on<J: Logs, R: Wait>(
+pub(crate) fn server_on<J: Logs, R: Wait + Threads>(
     rt: &R,
     alloc: Global,
     directory: Directory,

@@ -1,5 +1,5 @@
 -- What a log has once it was cut behind its whole lines.
-use Rattle.std.proofs.Common.{◌≡◌, ℕ, List, [], ◌++◌, Option, Some, None, drop, take, length, refl, sym, ap, subst, ◌∙◌}
+use Rattle.std.proofs.Common.{◌≡◌, ℕ, Option, Some, None, drop, take, length, refl, sym, ap, subst, ◌∙◌}
 use Rattle.std.specs.Prelude.{unwrap_or, ⊤}
 use Rattle.std.proofs.lemmas.List.{append-nil, take_at}
 use Rattle.mx_journal.specs.Kept.{HasKept, HasWhole}

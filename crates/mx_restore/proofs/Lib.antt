@@ -1,6 +1,8 @@
+mod Batches
 pub mod Crosses
 mod Cutting
 mod Making
 mod Ones
 mod Pieces
 mod Taking
+mod Wrongs

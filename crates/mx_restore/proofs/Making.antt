@@ -1,10 +1,12 @@
 -- Stores that were made again, of texts one behind the other.
-use Rattle.std.proofs.Common.{◌≡◌, ◌⊎◌, inl, inr, ℕ, List, [], ◌∷◌, ◌++◌, refl, sym, ap, subst, ◌∙◌}
+use Rattle.std.proofs.Common.{◌≡◌, inl, inr, ℕ, List, [], ◌∷◌, ◌++◌, Ok, refl, sym, ap, subst, ◌∙◌}
 use Rattle.mx_engine.specs.Again.{with_record, with_records}
 use Rattle.mx_engine.specs.declared.record.Record.{Record}
 use Rattle.mx_fold.specs.Lists.{Histories}
-use Rattle.mx_restore.specs.Restored.{HaveMade, TakesText}
-use Rattle.mx_restore.specs.Said.{IsOther, SayAll, SaysText}
+use Rattle.mx_json.specs.Reading.{read_json}
+use Rattle.mx_json.specs.declared.value.Json.{Json}
+use Rattle.mx_restore.specs.Restored.{HaveMade, TakesText, TakesValue}
+use Rattle.mx_restore.specs.Said.{SayAll}
 
 said_all : (ts us : List (List ℕ)) (rs qs : List Record) → SayAll ts rs → SayAll us qs → SayAll (ts ++ us) (rs ++ qs)
 said_all [] us rs qs h k = subst (λ l. SayAll us (l ++ qs)) (sym h) k
@@ -28,3 +30,8 @@ made_all ts us old mid new h k = record {
   said = said_all ts us h.records k.records h.said k.said;
   stores = k.stores ∙ (ap (with_records k.records) h.stores ∙ sym (records_all h.records k.records old));
 }
+
+-- what a value says its text says
+pub takes_text : (t : List ℕ) (j : Json) (old new : Histories) → read_json t ≡ Ok j → TakesValue j old new → TakesText t old new
+takes_text t j old new is (inl (other, same)) = inl ((j, is, other), same)
+takes_text t j old new is (inr (r, says, made)) = inr (r, (j, is, says), made)

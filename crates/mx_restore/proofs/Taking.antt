@@ -1,19 +1,30 @@
--- The lines of a journal, one after the other, and piece after piece.
-use Rattle.std.proofs.Common.{◌≡◌, ℕ, ◌+◌, ◌-◌, ◌^◌, ◌<◌, ◌≤◌, min, List, [], ◌∷◌, ◌++◌, length, take, drop, Option, Some, None, refl, sym, ap, ◌∙◌, subst, arith, length-append, append_assoc}
+-- How far a journal was read, batch after batch.
+use Rattle.std.proofs.Common.{◌≡◌, ℕ, ◌+◌, ◌^◌, ◌<◌, List, [], ◌∷◌, ◌++◌, length, drop, Option, Some, None, Result, refl, sym, ap, ◌∙◌, subst, arith, length-append, append_assoc}
 use Rattle.std.proofs.lemmas.List.{append-nil}
 use Rattle.std.proofs.lemmas.Option.{same_Some, none-some}
 use Rattle.std.proofs.lemmas.Grind.{flat_map-append}
-use Rattle.std.proofs.Math.Seq.{drop-append_seam, take-append_seam}
-use Rattle.std.specs.Io.KnownBytes.{Consumes, IsAtEnd, Keeps}
+use Rattle.std.proofs.Math.Seq.{drop-append_seam}
+use Rattle.std.specs.Io.KnownBytes.{Consumes, IsAtEnd}
 use Rattle.std.specs.List.{AllByRecursion}
+use Rattle.std.specs.Prelude.{IfErr, IfOk}
 use Rattle.mx_fold.specs.Lists.{Histories}
-use Rattle.mx_journal.specs.Kept.{HasWhole}
-use Rattle.mx_lines.specs.Lines.{IsOpen, checked, file_of, letters, line, sum_of}
-use Rattle.mx_restore.specs.Pieces.{IsFar}
-use Rattle.mx_restore.specs.Restored.{CountsWhole, HasRestored, HasTaken, Restores, TakesLines, TakesText, counted}
-use Rattle.mx_restore.proofs.Making.{made_all, made_none, made_one}
+use Rattle.mx_lines.specs.Lines.{IsOpen, file_of, line}
+use Rattle.mx_outside.specs.Causes.{Rose}
+use Rattle.mx_ids.specs.declared.users.Users.{Users}
+use Rattle.mx_json.specs.Reading.{read_json}
+use Rattle.mx_restore.specs.Batches.{AreLinesOf, HasReadMore, IsLineOf, StopsAt}
+use Rattle.mx_restore.specs.Faults.{HasCause}
+use Rattle.mx_restore.specs.Made.{HasMade, HasTaken, IsAhead, IsFar, MakesLine, MakesLines, devices_after, devices_read, ended_at, no_lines}
+use Rattle.mx_restore.specs.Restored.{CountsWhole, Restores, counted}
+use Rattle.mx_restore.specs.declared.reading.ReadLine.{ReadLine}
+use Rattle.mx_restore.specs.declared.reading.Stopped.{Stopped}
+use Rattle.mx_restore.specs.declared.reading.Stopped.TheVariants as stop
+use Rattle.mx_restore.specs.declared.restoring.Restored.{Restored}
+use Rattle.mx_restore.specs.declared.wrong.RestoreFault.{RestoreFault}
+use Rattle.mx_restore.proofs.Batches.{joined}
+use Rattle.mx_restore.proofs.Making.{made_all, made_none, made_one, takes_text}
 
--- ---- the lines of some bytes
+-- ---- lines, one after the other
 
 counted_none : (n : ℕ) → n < 2 ^ 64 → n ≡ counted n 0
 counted_none n few = omega (arith, few)
@@ -24,126 +35,155 @@ counted_few m n more is = omega (arith, is)
 counted_more : (n k more all : ℕ) → all ≡ k + more → counted (counted n k) more ≡ counted n all
 counted_more n k more all is = omega (arith, is)
 
-pub begun : (bytes : List ℕ) (n : ℕ) (h : Histories) → HasTaken bytes bytes n n h h
-begun bytes n h = record { texts = []; whole = refl; texts_open = tt; count = counted_none n; made = made_none h }
-
-line_long : (text : List ℕ) → 10 ≤ length (line text)
-line_long text = let sum : length (line text) ≡ length (letters (sum_of text) ++ 32 ∷ text) + 1 = length-append (checked text) (10 ∷ []) in omega (arith, sum)
-
--- how long a line is, of what it and the lines behind it have
-pub line_length : (rest behind text : List ℕ) → rest ≡ line text ++ behind → length rest ≡ length (line text) + length behind
-line_length rest behind text is = ap length is ∙ length-append (line text) behind
-
-pub shrinks : (rest behind text : List ℕ) → rest ≡ line text ++ behind → length behind < length rest
-shrinks rest behind text is = omega (arith, line_length rest behind text is, line_long text)
-
--- what stands before the bytes behind a line is the line
-pub front_length : (rest behind text : List ℕ) → rest ≡ line text ++ behind → length (take (length rest - length behind) rest) ≡ length (line text)
-front_length rest behind text is =
-    let long : length rest - length behind ≡ length (line text) = let sum = line_length rest behind text is in omega (arith, sum) in
-    ap length (ap (λ n. take n rest) long ∙ (ap (take (length (line text))) is ∙ take-append_seam (line text) behind))
-
-all_open : (xs ys : List (List ℕ)) → AllByRecursion IsOpen xs → AllByRecursion IsOpen ys → AllByRecursion IsOpen (xs ++ ys)
-all_open [] ys h k = k
-all_open (x ∷ xs) ys h k = (h.0, all_open xs ys h.1 k)
-
--- lines that were taken of the bytes that others had left
-joined : (bytes rest behind : List ℕ) (ts us : List (List ℕ)) → bytes ≡ file_of ts ++ rest → rest ≡ file_of us ++ behind → bytes ≡ file_of (ts ++ us) ++ behind
-joined bytes rest behind ts us before is =
-    before ∙ (ap (λ l. file_of ts ++ l) is ∙ (sym (append_assoc (file_of ts) (file_of us) behind) ∙ ap (λ l. l ++ behind) (sym (flat_map-append line ts us))))
-
 joined_length : (ts us : List (List ℕ)) → length (file_of (ts ++ us)) ≡ length (file_of ts) + length (file_of us)
 joined_length ts us = ap length (flat_map-append line ts us) ∙ length-append (file_of ts) (file_of us)
 
-pub one_more : (bytes rest behind text : List ℕ) (from before after : ℕ) (old mid new : Histories) → HasTaken bytes rest from before old mid
-    → rest ≡ line text ++ behind → IsOpen text → after ≡ counted before (length (line text)) → TakesText text mid new → HasTaken bytes behind from after old new
-one_more bytes rest behind text from before after old mid new h is text_open count takes =
-    let one : file_of (text ∷ []) ≡ line text = append-nil (line text) in
-    record {
-      texts = h.texts ++ text ∷ [];
-      whole = joined bytes rest behind h.texts (text ∷ []) h.whole (is ∙ ap (λ l. l ++ behind) (sym one));
-      texts_open = all_open h.texts (text ∷ []) h.texts_open (text_open, tt);
-      count = λ few. count ∙ (ap (λ n. counted n (length (line text))) (h.count few)
-          ∙ counted_more from (length (file_of h.texts)) (length (line text)) (length (file_of (h.texts ++ text ∷ []))) (joined_length h.texts (text ∷ []) ∙ ap (λ l. length (file_of h.texts) + length l) one));
-      made = made_all h.texts (text ∷ []) old mid new h.made (made_one text mid new takes);
-    }
+devices_all : (users : Users) (from : ℕ) (ts us : List (List ℕ)) → devices_after users from (ts ++ us) ≡ devices_after users (devices_after users from ts) us
+devices_all users from [] us = refl
+devices_all users from (t ∷ ts) us = devices_all users (devices_read users from (read_json t)) ts us
 
-pub ended : (bytes rest : List ℕ) (before after : ℕ) (old new : Histories) → HasTaken bytes rest before after old new → IsOpen rest → TakesLines bytes (length bytes - length rest) before after old new
-ended bytes rest before after old new h rest_open =
-    let sum : length bytes ≡ length (file_of h.texts) + length rest = ap length h.whole ∙ length-append (file_of h.texts) rest in
-    let count : length bytes - length rest ≡ length (file_of h.texts) = omega (arith, sum) in
-    let behind : drop (length bytes - length rest) bytes ≡ rest = ap (λ n. drop n bytes) count ∙ (ap (drop (length (file_of h.texts))) h.whole ∙ drop-append_seam (file_of h.texts) rest) in
-    record {
-      within = omega (arith, sum);
-      taken = subst (λ r. HasTaken bytes r before after old new) (sym behind) h;
-      rest_open = subst IsOpen (sym behind) rest_open;
-    }
+module _ (users : Users) where
+  pub all_made : (ts us : List (List ℕ)) (before mid after : Restored) (old seen new : Histories) → HasMade users ts before mid old seen → HasMade users us mid after seen new → HasMade users (ts ++ us) before after old new
+  all_made ts us before mid after old seen new h k = record {
+    made = made_all ts us old seen new h.made k.made;
+    bytes = λ few. k.bytes (counted_few mid.bytes before.bytes (length (file_of ts)) (h.bytes few)) ∙ (ap (λ n. counted n (length (file_of us))) (h.bytes few)
+        ∙ counted_more before.bytes (length (file_of ts)) (length (file_of us)) (length (file_of (ts ++ us))) (joined_length ts us));
+    lines = λ few. k.lines (counted_few mid.lines before.lines (length ts) (h.lines few)) ∙ (ap (λ n. counted n (length us)) (h.lines few)
+        ∙ counted_more before.lines (length ts) (length us) (length (ts ++ us)) (length-append ts us));
+    devices = k.devices ∙ (ap (λ n. devices_after users n us) h.devices ∙ sym (devices_all users before.devices ts us));
+  }
 
--- ---- all bytes of a log, piece after piece
+  pub none_made : (far : Restored) (h : Histories) → HasMade users [] far far h h
+  none_made far h = record { made = made_none h; bytes = counted_none far.bytes; lines = counted_none far.lines; devices = refl }
 
--- the whole lines of a piece
-joined_piece : (all bytes rest left : List ℕ) (from mid to : ℕ) (old seen new : Histories) → HasTaken all (bytes ++ left) from mid old seen → HasTaken bytes rest mid to seen new → HasTaken all (rest ++ left) from to old new
-joined_piece all bytes rest left from mid to old seen new h k = record {
-  texts = h.texts ++ k.texts;
-  whole = joined all (bytes ++ left) (rest ++ left) h.texts k.texts h.whole (ap (λ l. l ++ left) k.whole ∙ append_assoc (file_of k.texts) rest left);
-  texts_open = all_open h.texts k.texts h.texts_open k.texts_open;
-  count = λ few. k.count (counted_few mid from (length (file_of h.texts)) (h.count few)) ∙ (ap (λ n. counted n (length (file_of k.texts))) (h.count few)
-      ∙ counted_more from (length (file_of h.texts)) (length (file_of k.texts)) (length (file_of (h.texts ++ k.texts))) (joined_length h.texts k.texts));
-  made = made_all h.texts k.texts old seen new h.made k.made;
-}
+  pub one_made : (t : List ℕ) (l : ReadLine) (before after : Restored) (old new : Histories) → IsLineOf t l → MakesLine users l before after old new → HasMade users (t ∷ []) before after old new
+  one_made t l before after old new is h =
+      let one : file_of (t ∷ []) ≡ line t = append-nil (line t) in
+      record {
+        made = made_one t old new (takes_text t l.value old new is.2 h.taken);
+        bytes = λ few. h.bytes ∙ ap (counted before.bytes) (ap length (is.1 ∙ sym one));
+        lines = λ few. h.lines;
+        devices = h.devices ∙ ap (devices_read users before.devices) (sym is.2);
+      }
 
-pub far_begun : (told : Option (List ℕ)) (h : Histories) → IsFar told told [] 0 h h
-far_begun told h all is = (all, is, begun all 0 h)
+  pub no_lines_made : (far : Restored) (h : Histories) → MakesLines users [] far far h h
+  no_lines_made far h [] are = none_made far h
+  no_lines_made far h (t ∷ ts) are = absurd are
+
+  pub line_made : (l : ReadLine) (ls : List ReadLine) (before mid after : Restored) (old seen new : Histories) → MakesLine users l before mid old seen → MakesLines users ls mid after seen new
+      → MakesLines users (l ∷ ls) before after old new
+  line_made l ls before mid after old seen new h k [] are = absurd are
+  line_made l ls before mid after old seen new h k (t ∷ ts) are = all_made (t ∷ []) ts before mid after old seen new (one_made t l before mid old seen are.0 h) (k ts are.1)
+
+-- ---- the bytes of a log, batch after batch
+
+pub far_begun : (users : Users) (told : Option (List ℕ)) (h : Histories) → IsFar users told told [] no_lines h h
+far_begun users told h = record { each = λ all is. record { more = all; is_left = is; taken = record { texts = []; whole = refl; texts_open = tt; made = none_made users no_lines h } } }
 
 consumed : (old new : Option (List ℕ)) (rest piece : List ℕ) → old ≡ Some rest → Consumes old new piece → (more : List ℕ) × (new ≡ Some more) × (rest ≡ piece ++ more)
 consumed None new rest piece is h = absurd (none-some rest is)
 consumed (Some xs) None rest piece is h = absurd h
 consumed (Some xs) (Some ys) rest piece is h = (ys, refl, sym (same_Some xs rest is) ∙ h)
 
--- the lines of what was taken, and a piece more
-pub far_more : (told left next : Option (List ℕ)) (bytes piece after : List ℕ) (used n m : ℕ) (old mid new : Histories) → IsFar told left bytes n old mid → TakesLines bytes used n m mid new
-    → after ≡ drop used bytes ++ piece → Consumes left next piece → IsFar told next after m old new
-far_more told left next bytes piece after used n m old mid new h taken is consumes all e =
-    let before = h all e in
-    let moved = consumed left next before.0 piece before.1 consumes in
-    let now = joined_piece all bytes (drop used bytes) before.0 0 n m old mid new before.2 taken.taken in
-    let same : drop used bytes ++ before.0 ≡ after ++ moved.0 = ap (λ l. drop used bytes ++ l) moved.2 ∙ (sym (append_assoc (drop used bytes) piece moved.0) ∙ ap (λ l. l ++ moved.0) (sym is)) in
-    (moved.0, moved.1, subst (λ l. HasTaken all l 0 m old new) same now)
-
-none_left : (old new : Option (List ℕ)) (rest : List ℕ) → old ≡ Some rest → IsAtEnd new → Keeps old new → rest ≡ []
-none_left None new rest is ends keeps = absurd (none-some rest is)
-none_left (Some xs) None rest is ends keeps = absurd keeps
-none_left (Some xs) (Some ys) rest is ends keeps = sym (same_Some xs rest is) ∙ (sym keeps ∙ ends)
-
--- the lines of what was taken, and none is left
-far_ended : (told left next : Option (List ℕ)) (bytes : List ℕ) (used n m : ℕ) (old mid new : Histories) → IsFar told left bytes n old mid → TakesLines bytes used n m mid new
-    → IsAtEnd next → Keeps left next → (all : List ℕ) → told ≡ Some all → HasTaken all (drop used bytes) 0 m old new
-far_ended told left next bytes used n m old mid new h taken ends keeps all e =
-    let before = h all e in
-    let now = joined_piece all bytes (drop used bytes) before.0 0 n m old mid new before.2 taken.taken in
-    subst (λ l. HasTaken all l 0 m old new) (ap (λ l. drop used bytes ++ l) (none_left left next before.0 before.1 ends keeps) ∙ append-nil (drop used bytes)) now
-
-pub far_restores : (told left next : Option (List ℕ)) (bytes : List ℕ) (used n m : ℕ) (old mid new : Histories) → IsFar told left bytes n old mid → TakesLines bytes used n m mid new
-    → IsAtEnd next → Keeps left next → Restores told old new
-far_restores told left next bytes used n m old mid new h taken ends keeps all e =
-    let now = far_ended told left next bytes used n m old mid new h taken ends keeps all e in
+-- lines that were read of what was left
+pub far_read : (users : Users) (told left next : Option (List ℕ)) (bytes rest : List ℕ) (lines : List ReadLine) (far : Restored) (old new : Histories) → IsFar users told left bytes far old new → HasReadMore left next bytes rest [] lines
+    → IsAhead users told next lines rest far old new
+far_read users told left next bytes rest lines far old new h more =
+    let read = more.read in
     record {
-      texts = now.texts;
-      rest = drop used bytes;
-      is = record { whole = now.whole; texts_open = now.texts_open; rest_open = taken.rest_open };
-      made = now.made;
+      texts = read.texts;
+      are = subst (AreLinesOf read.texts) (sym read.added) read.are;
+      far_is = record {
+        each = λ all e.
+            let before = h.each all e in
+            let moved = consumed left next before.more more.piece before.is_left more.taken in
+            let same : bytes ++ before.more ≡ (file_of read.texts ++ rest) ++ moved.0 = ap (λ l. bytes ++ l) moved.2 ∙ (sym (append_assoc bytes more.piece moved.0) ∙ ap (λ l. l ++ moved.0) read.whole) in
+            record { more = moved.0; is_left = moved.1; taken = subst (λ l. HasTaken users all l far old new) same before.taken };
+      };
     }
 
-pub far_counts : (told left next : Option (List ℕ)) (bytes : List ℕ) (used n m : ℕ) (old mid new : Histories) → IsFar told left bytes n old mid → TakesLines bytes used n m mid new
-    → IsAtEnd next → Keeps left next → CountsWhole told m
-far_counts told left next bytes used n m old mid new h taken ends keeps all e few =
-    let now = far_ended told left next bytes used n m old mid new h taken ends keeps all e in
-    let rest = drop used bytes in
+pub all_open : (xs ys : List (List ℕ)) → AllByRecursion IsOpen xs → AllByRecursion IsOpen ys → AllByRecursion IsOpen (xs ++ ys)
+all_open [] ys h k = k
+all_open (x ∷ xs) ys h k = (h.0, all_open xs ys h.1 k)
+
+pub are_open : (ts : List (List ℕ)) (ls : List ReadLine) → AreLinesOf ts ls → AllByRecursion IsOpen ts
+are_open [] ls h = tt
+are_open (t ∷ ts) [] h = absurd h
+are_open (t ∷ ts) (l ∷ ls) h = (h.0.0, are_open ts ls h.1)
+
+-- the stores of lines that were read
+pub far_made : (users : Users) (told left : Option (List ℕ)) (lines : List ReadLine) (rest : List ℕ) (far after : Restored) (old mid new : Histories) → IsAhead users told left lines rest far old mid → MakesLines users lines far after mid new
+    → IsFar users told left rest after old new
+far_made users told left lines rest far after old mid new h makes = record {
+  each = λ all e.
+      let before = h.far_is.each all e in
+      let taken = before.taken in
+      record {
+        more = before.more;
+        is_left = before.is_left;
+        taken = record {
+          texts = taken.texts ++ h.texts;
+          whole = joined all ((file_of h.texts ++ rest) ++ before.more) (rest ++ before.more) taken.texts h.texts taken.whole (append_assoc (file_of h.texts) rest before.more);
+          texts_open = all_open taken.texts h.texts taken.texts_open (are_open h.texts lines h.are);
+          made = all_made users taken.texts h.texts no_lines far after old mid new taken.made (makes h.texts h.are);
+        };
+      };
+}
+
+-- no bytes are left
+none_left : (left : Option (List ℕ)) (more : List ℕ) → left ≡ Some more → IsAtEnd left → more ≡ []
+none_left None more is ends = absurd (none-some more is)
+none_left (Some xs) more is ends = sym (same_Some xs more is) ∙ ends
+
+far_ended : (users : Users) (told left : Option (List ℕ)) (rest : List ℕ) (far : Restored) (old new : Histories) → IsFar users told left rest far old new → IsAtEnd left → (all : List ℕ) → told ≡ Some all → HasTaken users all rest far old new
+far_ended users told left rest far old new h ends all e =
+    let now = h.each all e in
+    subst (λ l. HasTaken users all l far old new) (ap (λ l. rest ++ l) (none_left left now.more now.is_left ends) ∙ append-nil rest) now.taken
+
+pub far_restores : (users : Users) (told left : Option (List ℕ)) (rest : List ℕ) (far : Restored) (old new : Histories) → IsFar users told left rest far old new → IsAtEnd left → IsOpen rest → Restores told old new
+far_restores users told left rest far old new h ends opens all e =
+    let now = far_ended users told left rest far old new h ends all e in
+    record { texts = now.texts; rest = rest; is = record { whole = now.whole; texts_open = now.texts_open; rest_open = opens }; made = now.made.made }
+
+pub far_counts : (users : Users) (told left : Option (List ℕ)) (rest : List ℕ) (far : Restored) (old new : Histories) → IsFar users told left rest far old new → IsAtEnd left → IsOpen rest → CountsWhole told far.bytes
+far_counts users told left rest far old new h ends opens all e few =
+    let now = far_ended users told left rest far old new h ends all e in
     let sum : length all ≡ length (file_of now.texts) + length rest = ap length now.whole ∙ length-append (file_of now.texts) rest in
-    let count : m ≡ length (file_of now.texts) = omega (arith, sum, few, now.count (omega arith)) in
-    let behind : drop m all ≡ rest = ap (λ k. drop k all) count ∙ (ap (drop (length (file_of now.texts))) now.whole ∙ drop-append_seam (file_of now.texts) rest) in
+    let count : far.bytes ≡ length (file_of now.texts) = omega (arith, sum, few, now.made.bytes (omega arith)) in
+    let behind : drop far.bytes all ≡ rest = ap (λ k. drop k all) count ∙ (ap (λ l. drop (length (file_of now.texts)) l) now.whole ∙ drop-append_seam (file_of now.texts) rest) in
     record {
       texts = now.texts;
-      is = record { whole = now.whole ∙ ap (λ l. file_of now.texts ++ l) (sym behind); texts_open = now.texts_open; rest_open = subst IsOpen (sym behind) taken.rest_open };
+      is = record { whole = now.whole ∙ ap (λ l. file_of now.texts ++ l) (sym behind); texts_open = now.texts_open; rest_open = subst IsOpen (sym behind) opens };
       lines = count;
     }
+
+-- ---- what a start comes to in the end
+
+pub ended_restores : (users : Users) (told left : Option (List ℕ)) (rest : List ℕ) (far : Restored) (old new : Histories) (s : Stopped) (r : Result Restored RestoreFault) → r ≡ ended_at far s → IsFar users told left rest far old new → StopsAt s rest
+    → (s ≡ stop.End → IsAtEnd left) → (s ≡ stop.Open → ⊥) → IfOk r (λ f. Restores told old new)
+ended_restores users told left rest far old new s r is h stops ends more = subst (λ q. IfOk q (λ f. Restores told old new)) (sym is) (by_stop s stops ends more) where
+  by_stop : (s : Stopped) → StopsAt s rest → (s ≡ stop.End → IsAtEnd left) → (s ≡ stop.Open → ⊥) → IfOk (ended_at far s) (λ f. Restores told old new)
+  by_stop stop.Open stops ends more = absurd (more refl)
+  by_stop stop.End stops ends more = far_restores users told left rest far old new h (ends refl) stops
+  by_stop (stop.Wrong w) stops ends more = tt
+  by_stop stop.Failed stops ends more = tt
+  by_stop (stop.Memory refused) stops ends more = tt
+
+pub ended_counts : (users : Users) (told left : Option (List ℕ)) (rest : List ℕ) (far : Restored) (old new : Histories) (s : Stopped) (r : Result Restored RestoreFault) → r ≡ ended_at far s → IsFar users told left rest far old new → StopsAt s rest
+    → (s ≡ stop.End → IsAtEnd left) → (s ≡ stop.Open → ⊥) → IfOk r (λ f. CountsWhole told f.bytes)
+ended_counts users told left rest far old new s r is h stops ends more = subst (λ q. IfOk q (λ f. CountsWhole told f.bytes)) (sym is) (by_stop s stops ends more) where
+  by_stop : (s : Stopped) → StopsAt s rest → (s ≡ stop.End → IsAtEnd left) → (s ≡ stop.Open → ⊥) → IfOk (ended_at far s) (λ f. CountsWhole told f.bytes)
+  by_stop stop.Open stops ends more = absurd (more refl)
+  by_stop stop.End stops ends more = far_counts users told left rest far old new h (ends refl) stops
+  by_stop (stop.Wrong w) stops ends more = tt
+  by_stop stop.Failed stops ends more = tt
+  by_stop (stop.Memory refused) stops ends more = tt
+
+pub ended_for : (far : Restored) (s : Stopped) (before after : ℕ) (r : Result Restored RestoreFault) → r ≡ ended_at far s → (s ≡ stop.Failed → Rose before after) → IfErr r (λ fault. HasCause fault before after)
+ended_for far s before after r is rose = subst (λ q. IfErr q (λ fault. HasCause fault before after)) (sym is) (by_stop s rose) where
+  by_stop : (s : Stopped) → (s ≡ stop.Failed → Rose before after) → IfErr (ended_at far s) (λ fault. HasCause fault before after)
+  by_stop stop.Open rose = tt
+  by_stop stop.End rose = tt
+  by_stop (stop.Wrong w) rose = tt
+  by_stop stop.Failed rose = rose refl
+  by_stop (stop.Memory refused) rose = tt

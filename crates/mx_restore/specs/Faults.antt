@@ -32,3 +32,10 @@ IsOfLog Failed = Unit {0}
 IsOfLog Busy = ⊥
 IsOfLog (Line number wrong) = ⊥
 IsOfLog (Memory refused) = Unit {0}
+
+-- a log isn't opened
+abbrev pub IsOfOpening : RestoreFault → Type 0
+IsOfOpening Failed = Unit {0}
+IsOfOpening Busy = Unit {0}
+IsOfOpening (Line number wrong) = ⊥
+IsOfOpening (Memory refused) = ⊥

@@ -1,5 +1,7 @@
+pub mod Batches
 pub mod Faults
 pub mod Heads
-pub mod Pieces
+pub mod Made
 pub mod Restored
 pub mod Said
+pub mod Wrongs

@@ -1,13 +1,12 @@
 -- What was made again of a journal.
-use Rattle.std.specs.Prelude.{◌≡◌, ◌<◌, ◌≤◌, ◌+◌, ◌-◌, ◌^◌, ◌⊎◌, ℕ, ◌++◌, List, Option, Some, drop, length, min}
-use Rattle.std.specs.List.{AllByRecursion}
+use Rattle.std.specs.Prelude.{◌≡◌, ◌<◌, ◌+◌, ◌-◌, ◌^◌, ◌⊎◌, ℕ, ◌++◌, List, Option, Some, length, min}
 use Rattle.mx_engine.specs.Again.{with_record, with_records}
 use Rattle.mx_engine.specs.Answers.{nothing}
 use Rattle.mx_engine.specs.declared.record.Record.{Record}
 use Rattle.mx_fold.specs.Lists.{Histories}
 use Rattle.mx_journal.specs.Kept.{HasKept, HasWhole}
 use Rattle.mx_json.specs.declared.value.Json.{Json}
-use Rattle.mx_lines.specs.Lines.{IsOpen, IsRead, file_of}
+use Rattle.mx_lines.specs.Lines.{IsRead}
 use Rattle.mx_log.specs.Logs.{Logged}
 use Rattle.mx_restore.specs.Said.{IsOther, IsOtherValue, SayAll, Says, SaysText}
 
@@ -29,21 +28,7 @@ pub record HaveMade (texts : List (List ℕ)) (old new : Histories) : Type 0 whe
 abbrev pub counted : ℕ → ℕ → ℕ
 counted count more = min (count + more) (2 ^ 64 - 1)
 
--- the stores of the lines before a rest were made again, and the bytes of these lines were counted
-pub record HasTaken (bytes rest : List ℕ) (before after : ℕ) (old new : Histories) : Type 0 where
-  pub texts : List (List ℕ)
-  pub whole : bytes ≡ file_of texts ++ rest
-  pub texts_open : AllByRecursion IsOpen texts
-  pub count : before < 2 ^ 64 → after ≡ counted before (length (file_of texts))
-  pub made : HaveMade texts old new
-
--- those of the whole lines, which have so many bytes
-pub record TakesLines (bytes : List ℕ) (used before after : ℕ) (old new : Histories) : Type 0 where
-  pub within : used ≤ length bytes
-  pub taken : HasTaken bytes (drop used bytes) before after old new
-  pub rest_open : IsOpen (drop used bytes)
-
--- those of the whole lines of a journal
+-- the stores of the whole lines of a journal were made again
 pub record HasRestored (bytes : List ℕ) (old new : Histories) : Type 0 where
   pub texts : List (List ℕ)
   pub rest : List ℕ

@@ -1,8 +1,12 @@
 //! The first line of a journal, and its lines of devices.
 
-ghost use Rattle.std.specs.Prelude.{OnOk};
-ghost use Rattle.mx_restore.specs.Heads.{AddsLines};
+ghost use Rattle.std.specs.Prelude.{◌≡◌, ◌-◌, ◌^◌, true, pos, Some, OnOk, codes, min};
+ghost use Rattle.mx_event.specs.Kinds.{is_text};
+ghost use Rattle.mx_json.specs.Fields.{text_of};
+ghost use Rattle.mx_restore.specs.Heads.{AddsLines, are_devices, devices_in, is_device, is_first_line, is_head};
+ghost use Rattle.mx_restore.specs.Said.{name_of};
 
+use crate::records::name_of;
 use mx_ids::{Copied, Memory, Seq, Text, Users};
 use mx_journal::{LineFault, add_line};
 use mx_json::Json;
@@ -59,7 +63,9 @@ fn device_values(alloc: Global, users: &Users, from: usize) -> Result<Json, Memo
 }
 
 /// The number of a device, as a value has it.
-fn number_of(device: usize) -> i64 {
+fn number_of(device: usize) -> i64
+    ensures { result ≡ pos (min device (2 ^ 63 - 1)) }
+{
     i64::try_from(device).unwrap_or(i64::MAX)
 }
 
@@ -83,8 +89,18 @@ fn put_value(alloc: Global, lines: &mut Vec<u8>, value: &Json) -> Result<(), Mem
     }
 }
 
+/// Whether a value is that of the first line of a journal of this server with so many writers.
+pub(crate) fn is_first(json: &Json, server: &Text, writers: u8) -> bool
+    ensures is { result ≡ is_first_line server.now writers json.now }
+    ensures named { result ≡ true → name_of json.now ≡ Some (codes "mxsync") }
+{
+    is_named(json, "mxsync") && is_head(json, server, writers)
+}
+
 /// Whether a value goes on, behind its name, as the first line of a journal of this server with so many writers.
-pub(crate) fn is_head(json: &Json, server: &Text, writers: u8) -> bool {
+fn is_head(json: &Json, server: &Text, writers: u8) -> bool
+    ensures { result ≡ is_head server.now writers json.now }
+{
     let Some(parts) = json.as_list() else {
         return false;
     };
@@ -97,7 +113,9 @@ pub(crate) fn is_head(json: &Json, server: &Text, writers: u8) -> bool {
 }
 
 /// How many devices a value has behind its name, where these are the ones of the users file from a number on.
-pub(crate) fn devices_in(json: &Json, users: &Users, from: usize) -> Option<usize> {
+pub(crate) fn devices_in(json: &Json, users: &Users, from: usize) -> Option<usize>
+    ensures { result ≡ devices_in users.now from json.now }
+{
     let [_, first, devices] = json.as_list()?.as_slice() else {
         return None;
     };
@@ -105,18 +123,31 @@ pub(crate) fn devices_in(json: &Json, users: &Users, from: usize) -> Option<usiz
         return None;
     }
     let devices = devices.as_list()?.as_slice();
+    if are_devices(devices, users, from) {
+        Some(devices.len())
+    } else {
+        None
+    }
+}
+
+/// Whether values say the devices from a number on.
+fn are_devices(values: &[Json], users: &Users, from: usize) -> bool
+    ensures { result ≡ are_devices users.now from values.now }
+{
     let mut at = from;
-    'devices: for device in devices {
-        if !is_device(device, users, at) {
-            return None;
+    'devices: for value in values {
+        if !is_device(value, users, at) {
+            return false;
         }
         at = at.saturating_add(1);
     }
-    Some(devices.len())
+    true
 }
 
 /// Whether a value says the device of a number.
-fn is_device(json: &Json, users: &Users, at: usize) -> bool {
+fn is_device(json: &Json, users: &Users, at: usize) -> bool
+    ensures { result ≡ is_device users.now at json.now }
+{
     let (Some(parts), Some(device)) = (json.as_list(), users.devices.get(at)) else {
         return false;
     };
@@ -126,9 +157,22 @@ fn is_device(json: &Json, users: &Users, at: usize) -> bool {
     is_text(user, id.as_str()) && is_text(name, device.name.as_str())
 }
 
-fn is_text(json: &Json, text: &str) -> bool {
+fn is_text(json: &Json, text: &str) -> bool
+    ensures { result ≡ is_text text.now (text_of json.now) }
+{
     match json.as_text() {
         Some(found) => found.as_str() == text,
+        None => false,
+    }
+}
+
+/// Whether a value begins with a text.
+pub(crate) fn is_named(json: &Json, name: &str) -> bool
+    ensures is { result ≡ is_text name.now (name_of json.now) }
+    ensures named { result ≡ true → name_of json.now ≡ Some name.now }
+{
+    match name_of(json) {
+        Some(found) => found.as_str() == name,
         None => false,
     }
 }

@@ -3,11 +3,12 @@
 ghost use Rattle.std.specs.Prelude.{◌≡◌, ◌≤◌, true, ℕ, List, IfErr, IfOk, OnOk};
 ghost use Rattle.mx_journal.specs.Kept.{AreLines};
 ghost use Rattle.mx_log.specs.Logs.{Opens};
-ghost use Rattle.mx_engine.specs.Answers.{stops_with};
+ghost use Rattle.mx_engine.specs.Answers.{nothing, stops_with};
 ghost use Rattle.mx_engine.specs.Shown.{Ties, all_started, made_of, site_of, stops_of, stores_of};
 ghost use Rattle.mx_engine.specs.Written.{Made};
-ghost use Rattle.mx_restore.specs.Faults.{HasCause, IsOfLog, StaysAt};
+ghost use Rattle.mx_restore.specs.Faults.{HasCause, IsOfLog, IsOfOpening, StaysAt};
 ghost use Rattle.mx_restore.specs.Restored.{Begins, Continues, GoesOn, Restores};
+ghost use Rattle.mx_restore.specs.Wrongs.{TellsWrong};
 
 use crate::heads::{put_devices, put_head};
 use crate::kept::Kept;
@@ -20,11 +21,13 @@ use mx_log::{Log, LogFile, Logs, OpenFault};
 use mx_outside::Put;
 use std::alloc::Global;
 use std::sync::Wait;
+use std::thread::Threads;
 
 /// An engine on the journal of a name, which has the stores of its lines, and a pass of it that has seen these. A journal that is missing
-/// or empty is begun. What stands behind the whole lines is cut off; where a line is refused the journal stays as it is. `Busy` and `Failed`
+/// or empty is begun. What stands behind the whole lines is cut off; where a line is refused the journal stays as it is, and `Line` comes
+/// only of one that is wrong so, where the stores of all lines before it were made again. `Busy` and `Failed`
 /// come only where the count of faults rose in this call, or stands at its last value.
-pub fn engine_on<J: Logs, R: Wait>(
+pub fn engine_on<J: Logs, R: Wait + Threads>(
     rt: &R,
     alloc: Global,
     setup: Setup,
@@ -40,6 +43,7 @@ pub fn engine_on<J: Logs, R: Wait>(
     ensures made { IfOk result (λ r. (m : Made) × (made_of r.1 ≡ all_started m)) }
     ensures count { J.faults logs.old ≤ J.faults logs.new }
     ensures cause { IfErr result (λ fault. HasCause fault (J.faults logs.old) (J.faults logs.new)) }
+    ensures wrong { IfErr result (TellsWrong (record { users = setup.users; writers = setup.workers }) (J.told logs.old name.now) nothing) }
 {
     let mut log = open(logs, name)?;
     match engine_from(rt, alloc, setup, &mut log) {
@@ -59,6 +63,7 @@ fn open<J: Logs>(logs: &mut J, name: &str) -> Result<J::File, RestoreFault>
     ensures opened { IfOk result (λ log. Opens (J.told logs.old name.now) (J.File.told log) (J.File.left log)) }
     ensures count { J.faults logs.old ≤ J.faults logs.new }
     ensures cause { IfErr result (λ fault. HasCause fault (J.faults logs.old) (J.faults logs.new)) }
+    ensures fault { IfErr result IsOfOpening }
 {
     match logs.open(name) {
         Ok(log) => Ok(log),
@@ -68,7 +73,7 @@ fn open<J: Logs>(logs: &mut J, name: &str) -> Result<J::File, RestoreFault>
 }
 
 /// An engine with the stores of a log's lines. The log then has these, and behind them the first lines that it lacked.
-fn engine_from<L: LogFile + Drop + Send + 'static, R: Wait>(
+fn engine_from<L: LogFile + Drop + Send + 'static, R: Wait + Threads>(
     rt: &R,
     alloc: Global,
     setup: Setup,
@@ -85,6 +90,7 @@ fn engine_from<L: LogFile + Drop + Send + 'static, R: Wait>(
     ensures stays { IfErr result (λ fault. StaysAt fault (L.told log.old) (L.told log.new)) }
     ensures count { L.faults log.old ≤ L.faults log.new }
     ensures cause { IfErr result (λ fault. HasCause fault (L.faults log.old) (L.faults log.new)) }
+    ensures wrong { IfErr result (TellsWrong (record { users = setup.users; writers = setup.workers }) (L.left log.old) nothing) }
 {
     let (engine, mut first) = engine(alloc, setup, Kept::new(alloc)?)?;
     match pass_from(rt, alloc, &engine, log, &mut first) {
@@ -102,7 +108,7 @@ fn engine_from<L: LogFile + Drop + Send + 'static, R: Wait>(
 
 /// Makes the stores of a log's lines again: a new pass that has seen them. The log then has these lines, and behind them the first lines
 /// that it lacked.
-fn pass_from<L: LogFile + Drop + Send + 'static, R: Wait>(
+fn pass_from<L: LogFile + Drop + Send + 'static, R: Wait + Threads>(
     rt: &R,
     alloc: Global,
     engine: &Engine<Kept<L>>,
@@ -117,6 +123,7 @@ fn pass_from<L: LogFile + Drop + Send + 'static, R: Wait>(
     ensures stays { IfErr result (λ fault. StaysAt fault (L.told log.old) (L.told log.new)) }
     ensures count { L.faults log.old ≤ L.faults log.new }
     ensures cause { IfErr result (λ fault. HasCause fault (L.faults log.old) (L.faults log.new)) }
+    ensures wrong { IfErr result (TellsWrong (site_of engine.now) (L.left log.old) (stores_of first.old)) }
 {
     let desk = engine.outside().desk();
     let to = Restoring { engine, desk };

@@ -1,34 +1,32 @@
 //! A journal is read, and its stores are made again.
 
-ghost use Rattle.std.specs.Prelude.{◌≡◌, ◌<◌, ◌≤◌, ◌-◌, true, Some, IfErr, IfOk, OnOk, drop, length, take};
+ghost use Rattle.std.specs.Prelude.{◌≡◌, ◌≤◌, true, [], Some, IfErr, IfOk, OnOk};
+ghost use Rattle.std.specs.Io.KnownBytes.{IsAtEnd};
 ghost use Rattle.mx_engine.specs.Again.{with_record};
 ghost use Rattle.mx_engine.specs.declared.record.Record.{Record};
-ghost use Rattle.mx_engine.specs.Shown.{Ties, stores_of};
+ghost use Rattle.mx_engine.specs.Shown.{Ties, site_of, stores_of};
+ghost use Rattle.mx_lines.specs.Lines.{IsOpen};
 ghost use Rattle.mx_outside.specs.Causes.{Rose};
-ghost use Rattle.mx_outside.specs.Moves.{FitsRoom, Moves};
-ghost use Rattle.mx_restore.specs.Faults.{HasCause, IsOfLines, IsOfLog};
-ghost use Rattle.mx_restore.specs.Pieces.{Takes};
-ghost use Rattle.mx_restore.specs.Restored.{CountsWhole, Restores, TakesLines, TakesText, TakesValue, counted};
-ghost use Rattle.mx_restore.specs.Said.{Says, name_of};
+ghost use Rattle.mx_restore.specs.Batches.{HasReadMore, StopsAt};
+ghost use Rattle.mx_restore.specs.Faults.{HasCause, IsOfLines};
+ghost use Rattle.mx_restore.specs.Made.{MakesLine, MakesLines, devices_by, ended_at};
+ghost use Rattle.mx_restore.specs.Restored.{CountsWhole, Restores, TakesValue};
+ghost use Rattle.mx_restore.specs.Said.{Says};
+ghost use Rattle.mx_restore.specs.Wrongs.{IsNoStore, IsRefused, IsUnmade, TellsWrong};
 
-use crate::heads::{devices_in, is_head};
-use crate::records::{name_of, read_record};
+use crate::heads::{devices_in, is_first, is_named};
+use crate::reading::{Batch, ReadLine, Stopped, read_batch};
+use crate::records::read_record;
 use crate::wrong::{RestoreFault, Wrong};
 use mx_desk::Desk;
 use mx_engine::{Engine, EnginePass, Outside, Unreplayed};
-use mx_ids::Memory;
-use mx_json::{Json, JsonFault, read};
-use mx_lines::{First, first_line};
+use mx_json::Json;
 use mx_log::{Log, LogFile};
-use mx_outside::Took;
 use std::alloc::Global;
+use std::marker::Send;
+use std::mem;
 use std::sync::Wait;
-
-/// How many bytes a take asks for at least.
-const PIECE: usize = 65_536;
-
-/// More bytes than a line has: that of a block of 512 events of 65,536 bytes is some 34 MiB.
-const LONGEST: usize = 67_108_864;
+use std::thread::{Threads, join_mut};
 
 /// How far a journal was read: the lines, and the devices among them.
 #[derive(Clone, Copy, Debug, PartialEq, Eq)]
@@ -47,6 +45,18 @@ impl Restored {
         lines: 0,
         devices: 0,
     };
+
+    /// How far a journal was read where no more of its lines are; or why it isn't restored.
+    fn ended(self, stopped: Stopped) -> Result<Restored, RestoreFault>
+        ensures { result ≡ ended_at self stopped }
+    {
+        match stopped {
+            Stopped::Open | Stopped::End => Ok(self),
+            Stopped::Wrong(wrong) => Err(RestoreFault::Line(self.lines.saturating_add(1), wrong)),
+            Stopped::Failed => Err(RestoreFault::Failed),
+            Stopped::Memory(refused) => Err(RestoreFault::Memory(refused)),
+        }
+    }
 }
 
 /// An engine whose stores are made again, with the desk that its writers keep them at.
@@ -56,10 +66,11 @@ pub struct Restoring<'a, G: Outside, L: Log + Drop> {
     pub desk: &'a Desk<L>,
 }
 
-/// Reads a log up to its end, and makes each store of its lines again, in its place. The desk isn't open, so that each line has to come
+/// Reads a log up to its end, and makes each store of its lines again, in its place. The lines of a batch are read by another thread, where
+/// one can be started, while the stores of those before are made. The desk isn't open, so that each line has to come
 /// out as itself. What stands behind the whole lines, in which no line ends, is passed over, but for 64 MiB without an end, which are no line.
 /// Nobody else is to store meanwhile. The log stays as it was.
-pub fn restore<G: Outside, L: Log + Drop, S: LogFile, R: Wait>(
+pub fn restore<G: Outside, L: Log + Drop, S: LogFile + Send, R: Wait + Threads>(
     rt: &R,
     alloc: Global,
     to: &Restoring<'_, G, L>,
@@ -73,128 +84,122 @@ pub fn restore<G: Outside, L: Log + Drop, S: LogFile, R: Wait>(
     ensures told { S.told log.new ≡ S.told log.old }
     ensures count { S.faults log.old ≤ S.faults log.new }
     ensures cause { IfErr result (λ fault. HasCause fault (S.faults log.old) (S.faults log.new)) }
+    ensures wrong { IfErr result (λ fault. TellsWrong (site_of to.now.engine.now) (S.left log.old) (stores_of pass.old) fault) }
 {
     let mut far = Restored::NONE;
-    let mut bytes = Vec::new(alloc);
-    'pieces: for _ in rt.forever() {
-        let used = to.take_lines(rt, alloc, bytes.as_slice(), &mut far, pass)?;
-        cut_front(&mut bytes, used);
-        if bytes.len() > LONGEST {
-            return Err(RestoreFault::Line(far.lines.saturating_add(1), Wrong::Long));
+    let mut rest = Vec::new(alloc);
+    let mut batch = read_batch(alloc, log, &mut rest);
+    'batches: for _ in rt.forever() {
+        let Batch { lines, stopped } = batch;
+        if !stopped.is_open() {
+            to.make_lines(rt, alloc, lines, &mut far, pass)?;
+            return far.ended(stopped);
         }
-        if !take_piece(log, &mut bytes)? {
-            return Ok(far);
-        }
+        batch = to.make_and_read(rt, alloc, lines, &mut far, pass, log, &mut rest)?;
     }
     unreachable!()
 }
 
-/// Removes the first so many bytes.
-fn cut_front(bytes: &mut Vec<u8>, used: usize)
-    requires { used ≤ length bytes.old.items }
-    ensures { bytes.new.items ≡ drop used bytes.old.items }
-{
-    bytes.drain(..used);
-}
-
-/// Takes the next bytes of a log behind others; whether there were any.
-fn take_piece<S: LogFile>(log: &mut S, bytes: &mut Vec<u8>) -> Result<bool, RestoreFault>
-    ensures took { IfOk result (λ more. Takes more (S.left log.old) (S.left log.new) bytes.old.items bytes.new.items) }
-    ensures told { S.told log.new ≡ S.told log.old }
-    ensures count { S.faults log.old ≤ S.faults log.new }
-    ensures cause { IfErr result (λ fault. HasCause fault (S.faults log.old) (S.faults log.new)) }
-{
-    let before = bytes.len();
-    grow(bytes)?;
-    match take_behind(log, bytes.as_mut_slice(), before) {
-        Took::Got(count) => {
-            bytes.truncate(before + count);
-            Ok(true)
-        }
-        Took::End => Ok(false),
-        Took::Failed => Err(RestoreFault::Failed),
-    }
-}
-
-/// Takes the next bytes of a log behind the first so many.
-fn take_behind<S: LogFile>(log: &mut S, bytes: &mut [u8], before: usize) -> Took
-    requires { before < length bytes.old }
-    ensures front { take before bytes.new ≡ take before bytes.old }
-    ensures room { FitsRoom result (length bytes.old - before) }
-    ensures took { Moves (S.left log.old) (S.left log.new) result (drop before bytes.new) }
-    ensures told { S.told log.new ≡ S.told log.old }
-    ensures count { S.faults log.old ≤ S.faults log.new }
-    ensures cause { result ≡ Took.Failed → Rose (S.faults log.old) (S.faults log.new) }
-{
-    log.take(&mut bytes[before..])
-}
-
-/// Makes room behind bytes for as many more, or for a piece.
-fn grow(bytes: &mut Vec<u8>) -> Result<(), Memory>
-    ensures front { OnOk result (take (length bytes.old.items) bytes.new.items ≡ bytes.old.items) }
-    ensures room { OnOk result (length bytes.old.items < length bytes.new.items) }
-{
-    let count = bytes.len();
-    bytes.resize(count.saturating_add(count.max(PIECE)), 0)?;
-    Ok(())
-}
-
 impl<'a, G: Outside, L: Log + Drop> Restoring<'a, G, L> {
-    /// Makes the stores of the whole lines of bytes again; how many bytes these have.
-    fn take_lines<R: Wait>(
+    /// Makes the stores of lines again, while the next lines of a log are read: those behind others, which left this rest.
+    fn make_and_read<S: LogFile + Send, R: Wait + Threads>(
         &self,
         rt: &R,
         alloc: Global,
-        bytes: &[u8],
+        lines: Vec<ReadLine>,
         far: &mut Restored,
         pass: &mut EnginePass,
-    ) -> Result<usize, RestoreFault>
+        log: &mut S,
+        rest: &mut Vec<u8>,
+    ) -> Result<Batch, RestoreFault>
         requires ties { Ties self.now.engine.now pass.old }
+        requires rest_open { IsOpen rest.old.items }
         ensures ties { Ties self.now.engine.now pass.new }
-        ensures taken { IfOk result (λ used. TakesLines bytes.now used far.old.bytes far.new.bytes (stores_of pass.old) (stores_of pass.new)) }
+        ensures made { OnOk result (MakesLines (site_of self.now.engine.now).users lines.items far.old far.new (stores_of pass.old) (stores_of pass.new)) }
         ensures fault { IfErr result IsOfLines }
+        ensures wrong { IfErr result (IsUnmade (site_of self.now.engine.now) lines.items far.old (stores_of pass.old)) }
+        ensures read { IfOk result (λ next. HasReadMore (S.left log.old) (S.left log.new) rest.old.items rest.new.items [] next.lines.items) }
+        ensures stops { IfOk result (λ next. StopsAt next.stopped rest.new.items) }
+        ensures end { IfOk result (λ next. next.stopped ≡ Stopped.End → IsAtEnd (S.left log.new)) }
+        ensures told { S.told log.new ≡ S.told log.old }
+        ensures count { S.faults log.old ≤ S.faults log.new }
+        ensures cause { IfOk result (λ next. next.stopped ≡ Stopped.Failed → Rose (S.faults log.old) (S.faults log.new)) }
     {
-        let mut rest = bytes;
-        'lines: loop {
-            match first_line(rest) {
-                First::Line(text, behind) => {
-                    let line = &rest[..rest.len() - behind.len()];
-                    self.take_line(rt, alloc, line, text, far, pass)?;
-                    rest = behind;
-                }
-                First::Open => return Ok(bytes.len() - rest.len()),
-                First::Wrong => {
-                    return Err(RestoreFault::Line(far.lines.saturating_add(1), Wrong::Check));
-                }
+        let mut lines = lines;
+        let (next, made) = join_mut(
+            rt,
+            &mut || -> Batch
+                requires { IsOpen rest.now.items }
+                ensures read { HasReadMore (S.left log.entry.now) (S.left log.exit.now) rest.entry.now.items rest.exit.now.items [] result.lines.items }
+                ensures stops { StopsAt result.stopped rest.exit.now.items }
+                ensures end { result.stopped ≡ Stopped.End → IsAtEnd (S.left log.exit.now) }
+                ensures told { S.told log.exit.now ≡ S.told log.entry.now }
+                ensures count { S.faults log.entry.now ≤ S.faults log.exit.now }
+                ensures cause { result.stopped ≡ Stopped.Failed → Rose (S.faults log.entry.now) (S.faults log.exit.now) }
+            { read_batch(alloc, log, rest) },
+            &mut || -> Result<(), RestoreFault>
+                requires { Ties self.now.engine.now pass.now }
+                ensures ties { Ties self.entry.now.engine.now pass.exit.now }
+                ensures made { OnOk result (MakesLines (site_of self.entry.now.engine.now).users lines.entry.items far.entry.now far.exit.now (stores_of pass.entry.now) (stores_of pass.exit.now)) }
+                ensures fault { IfErr result IsOfLines }
+                ensures wrong { IfErr result (IsUnmade (site_of self.entry.now.engine.now) lines.entry.items far.entry.now (stores_of pass.entry.now)) }
+            {
+                let lines = mem::replace(&mut lines, Vec::new(alloc));
+                self.make_lines(rt, alloc, lines, far, pass)
+            },
+        );
+        match made {
+            Ok(()) => Ok(next),
+            Err(fault) => {
+                drop(next);
+                Err(fault)
             }
         }
     }
 
-    /// Makes the store of a line again.
-    fn take_line<R: Wait>(
+    /// Makes the stores of lines again.
+    fn make_lines<R: Wait>(
         &self,
         rt: &R,
         alloc: Global,
-        line: &[u8],
-        text: &[u8],
+        lines: Vec<ReadLine>,
         far: &mut Restored,
         pass: &mut EnginePass,
     ) -> Result<(), RestoreFault>
         requires ties { Ties self.now.engine.now pass.old }
         ensures ties { Ties self.now.engine.now pass.new }
-        ensures taken { OnOk result (TakesText text.now (stores_of pass.old) (stores_of pass.new)) }
-        ensures far { OnOk result (far.new.bytes ≡ counted far.old.bytes (length line.now)) }
+        ensures made { OnOk result (MakesLines (site_of self.now.engine.now).users lines.items far.old far.new (stores_of pass.old) (stores_of pass.new)) }
         ensures fault { IfErr result IsOfLines }
+        ensures wrong { IfErr result (IsUnmade (site_of self.now.engine.now) lines.items far.old (stores_of pass.old)) }
     {
-        let number = far.lines.saturating_add(1);
-        let json = match read(alloc, text) {
-            Ok(json) => json,
-            Err(JsonFault::Memory(refused)) => return Err(RestoreFault::Memory(refused)),
-            Err(_) => return Err(RestoreFault::Line(number, Wrong::Text)),
-        };
-        self.take_value(rt, alloc, line, &json, far, pass)?;
-        far.lines = number;
-        far.bytes = far.bytes.saturating_add(line.len() as u64);
+        'lines: for line in lines {
+            self.make_line(rt, alloc, line, far, pass)?;
+        }
+        Ok(())
+    }
+
+    /// Makes the store of a line again.
+    fn make_line<R: Wait>(
+        &self,
+        rt: &R,
+        alloc: Global,
+        line: ReadLine,
+        far: &mut Restored,
+        pass: &mut EnginePass,
+    ) -> Result<(), RestoreFault>
+        requires ties { Ties self.now.engine.now pass.old }
+        ensures ties { Ties self.now.engine.now pass.new }
+        ensures made { OnOk result (MakesLine (site_of self.now.engine.now).users line far.old far.new (stores_of pass.old) (stores_of pass.new)) }
+        ensures fault { IfErr result IsOfLines }
+        ensures wrong { IfErr result (IsRefused (site_of self.now.engine.now) far.old line.value) }
+    {
+        let ReadLine { bytes, value } = line;
+        let count = bytes.len() as u64;
+        let taken = self.take_value(rt, alloc, bytes, &value, far, pass);
+        drop(value);
+        taken?;
+        far.lines = far.lines.saturating_add(1);
+        far.bytes = far.bytes.saturating_add(count);
         Ok(())
     }
 
@@ -203,7 +208,7 @@ impl<'a, G: Outside, L: Log + Drop> Restoring<'a, G, L> {
         &self,
         rt: &R,
         alloc: Global,
-        line: &[u8],
+        line: Vec<u8>,
         json: &Json,
         far: &mut Restored,
         pass: &mut EnginePass,
@@ -211,15 +216,15 @@ impl<'a, G: Outside, L: Log + Drop> Restoring<'a, G, L> {
         requires ties { Ties self.now.engine.now pass.old }
         ensures ties { Ties self.now.engine.now pass.new }
         ensures taken { OnOk result (TakesValue json.now (stores_of pass.old) (stores_of pass.new)) }
-        ensures far { far.new.bytes ≡ far.old.bytes }
+        ensures far { (far.new.bytes ≡ far.old.bytes) × (far.new.lines ≡ far.old.lines) }
+        ensures devices { OnOk result (far.new.devices ≡ devices_by (site_of self.now.engine.now).users far.old.devices json.now) }
         ensures fault { IfErr result IsOfLines }
+        ensures wrong { IfErr result (IsRefused (site_of self.now.engine.now) far.old json.now) }
     {
         let number = far.lines.saturating_add(1);
         let users = self.engine.users().users();
-        if number == 1 {
-            return if is_named(json, "mxsync")
-                && is_head(json, &users.server, self.engine.writers())
-            {
+        if far.lines == 0 {
+            return if is_first(json, &users.server, self.engine.writers()) {
                 Ok(())
             } else {
                 Err(RestoreFault::Line(number, Wrong::Head))
@@ -240,7 +245,7 @@ impl<'a, G: Outside, L: Log + Drop> Restoring<'a, G, L> {
         &self,
         rt: &R,
         alloc: Global,
-        line: &[u8],
+        line: Vec<u8>,
         json: &Json,
         number: u64,
         pass: &mut EnginePass,
@@ -249,29 +254,16 @@ impl<'a, G: Outside, L: Log + Drop> Restoring<'a, G, L> {
         ensures ties { Ties self.now.engine.now pass.new }
         ensures made { OnOk result ((r : Record) × Says json.now r × (stores_of pass.new ≡ with_record r (stores_of pass.old))) }
         ensures fault { IfErr result IsOfLines }
+        ensures wrong { IfErr result (IsNoStore json.now number) }
     {
         let Some(store) = read_record(alloc, json)? else {
             return Err(RestoreFault::Line(number, Wrong::Text));
         };
-        self.desk.replay(rt, copied(alloc, line)?);
+        self.desk.replay(rt, line);
         match self.engine.replay_record(rt, alloc, pass, store) {
             Ok(()) => Ok(()),
             Err(Unreplayed::Memory(refused)) => Err(RestoreFault::Memory(refused)),
             Err(why) => Err(RestoreFault::Line(number, Wrong::Store(why))),
         }
-    }
-}
-
-fn copied(alloc: Global, line: &[u8]) -> Result<Vec<u8>, Memory> {
-    Ok(Vec::from_slice(alloc, line)?)
-}
-
-/// Whether a value begins with a text.
-fn is_named(json: &Json, name: &str) -> bool
-    ensures { result ≡ true → name_of json.now ≡ Some name.now }
-{
-    match name_of(json) {
-        Some(found) => found.as_str() == name,
-        None => false,
     }
 }

@@ -17,6 +17,7 @@ use mx_users::{Directory, read_users};
 use std::alloc::Global;
 use std::process::Abort;
 use std::sync::Wait;
+use std::thread::Threads;
 
 /// The users file of two users.
 pub const USERS: &str = "server x\nalice A1 tok_a1\nbob B1 tok_b1\n";
@@ -39,7 +40,7 @@ pub fn logs(rt: &impl Abort, alloc: Global, bytes: &[u8], good: u64) -> MemLogs 
 }
 
 /// An engine of so many writers on a journal.
-pub fn on_journal<J: Logs, R: Wait>(
+pub fn on_journal<J: Logs, R: Wait + Threads>(
     rt: &R,
     alloc: Global,
     users: Directory,

@@ -9,9 +9,10 @@ use mx_users::Directory;
 use std::alloc::Global;
 use std::process::Abort;
 use std::sync::Wait;
+use std::thread::Threads;
 
 /// The log of a journal after a session, how many stores were answered, and how many were seen; nothing where there was no engine.
-fn session_on<J: Logs, R: Abort + Wait>(
+fn session_on<J: Logs, R: Abort + Wait + Threads>(
     rt: &R,
     alloc: Global,
     users: Directory,
@@ -31,7 +32,11 @@ fn session_on<J: Logs, R: Abort + Wait>(
 }
 
 /// The same in memory, of a log that fails from a call on: the bytes of the journal.
-fn kept(rt: &(impl Abort + Wait), alloc: Global, good: u64) -> Option<(Vec<u8>, u64, u64)> {
+fn kept(
+    rt: &(impl Abort + Wait + Threads),
+    alloc: Global,
+    good: u64,
+) -> Option<(Vec<u8>, u64, u64)> {
     let mut logs = logs(rt, alloc, &[], good);
     let done = session_on(rt, alloc, users(rt, alloc, USERS), &mut logs);
     drop(logs);
@@ -42,13 +47,13 @@ fn kept(rt: &(impl Abort + Wait), alloc: Global, good: u64) -> Option<(Vec<u8>, 
 }
 
 /// The bytes of the journal of a session whose log doesn't fail.
-fn whole(rt: &(impl Abort + Wait), alloc: Global) -> Vec<u8> {
+fn whole(rt: &(impl Abort + Wait + Threads), alloc: Global) -> Vec<u8> {
     let (bytes, _, _) = kept(rt, alloc, 1000).expect(rt, "an engine");
     bytes
 }
 
 /// How many stores an engine on a journal has; or the number of the line that is refused, from 1,000 on.
-fn found_on<J: Logs, R: Abort + Wait>(
+fn found_on<J: Logs, R: Abort + Wait + Threads>(
     rt: &R,
     alloc: Global,
     users: Directory,
@@ -72,7 +77,13 @@ fn found_on<J: Logs, R: Abort + Wait>(
 }
 
 /// The same of an engine on these bytes.
-fn restored(rt: &(impl Abort + Wait), alloc: Global, file: &str, workers: u8, bytes: &[u8]) -> u64
+fn restored(
+    rt: &(impl Abort + Wait + Threads),
+    alloc: Global,
+    file: &str,
+    workers: u8,
+    bytes: &[u8],
+) -> u64
     requires workers { (1 ≤ workers) × (workers ≤ 16) }
 {
     let mut logs = logs(rt, alloc, bytes, 1000);
@@ -82,7 +93,7 @@ fn restored(rt: &(impl Abort + Wait), alloc: Global, file: &str, workers: u8, by
 }
 
 /// The same of the users and the writers of the session.
-fn restored_as_before(rt: &(impl Abort + Wait), alloc: Global, bytes: &[u8]) -> u64 {
+fn restored_as_before(rt: &(impl Abort + Wait + Threads), alloc: Global, bytes: &[u8]) -> u64 {
     restored(rt, alloc, USERS, 2, bytes)
 }
 
@@ -106,7 +117,7 @@ fn what_was_answered_is_restored(rt: HostRuntime) {
 
 /// A journal that lacks so many bytes at its end, and then two more each time, restores with a front of its stores: so many at first, at
 /// most one fewer each time, and none where no byte is left.
-fn expect_fronts(rt: &(impl Abort + Wait), alloc: Global, lacking: usize, most: u64) {
+fn expect_fronts(rt: &(impl Abort + Wait + Threads), alloc: Global, lacking: usize, most: u64) {
     let mut bytes = whole(rt, alloc);
     bytes.truncate(bytes.len().saturating_sub(lacking));
     let mut most = most;
@@ -142,7 +153,12 @@ fn changed(rt: &impl Abort, alloc: Global, bytes: &[u8], at: usize) -> Vec<u8> {
 }
 
 /// What an engine has of these bytes with one of them changed.
-fn restored_with_change(rt: &(impl Abort + Wait), alloc: Global, bytes: &[u8], at: usize) -> u64 {
+fn restored_with_change(
+    rt: &(impl Abort + Wait + Threads),
+    alloc: Global,
+    bytes: &[u8],
+    at: usize,
+) -> u64 {
     let own = changed(rt, alloc, bytes, at);
     let found = restored_as_before(rt, alloc, own.as_slice());
     drop(own);

@@ -1,4 +1,4 @@
-use Rattle.std.proofs.Common.{◌∙◌, codes, refl}
+use Rattle.std.proofs.Common.{◌∙◌, codes}
 use Rattle.mx_serve.specs.OfEngine.Shown.{stores_of}
 use Rattle.mx_outside.specs.Causes.{Rose}
 use Rattle.mx_pool.specs.Connections.{change, ends_by, service_of}

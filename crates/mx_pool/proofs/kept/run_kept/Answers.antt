@@ -6,7 +6,7 @@ use Rattle.std.proofs.KnownBytes.{Keeps-refl}
 use Rattle.mx_restore.proofs.Crosses.{kept_accounts_send, kept_rooms_send}
 use Rattle.mx_serve.specs.OfEngine.Shown.{made_of, site_of, stops_of, stores_of}
 use Rattle.mx_words.specs.Words.{Loop, Serve, address_in, said_by, way_by}
-use Rattle.mx_pool.specs.Connections.{change, clocked, ends_by, service_of}
+use Rattle.mx_pool.specs.Connections.{change, ends_by, service_of}
 use Rattle.mx_pool.specs.Lines.{Tells, line_of}
 use Rattle.mx_pool.specs.Runs.{TellsListened, arrivals}
 use Rattle.mx_pool.proofs.Runs.{on_loops, on_none}

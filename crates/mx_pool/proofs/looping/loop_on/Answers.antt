@@ -1,6 +1,5 @@
-use Rattle.mx_pool.proofs.Loops.{loops_closed, loops_only, loops_rose, unbound_loops}
+use Rattle.mx_pool.proofs.Loops.{loops_closed, loops_only, unbound_loops}
 use Rattle.mx_pool.proofs.Outcomes.{unbound_done, unbound_status}
-use Rattle.mx_pool.proofs.Runs.{rose_from}
 use Rattle.mx_pool.proofs.looping.loop_on.Goals as goal
 
 pub returns-in-Failed-clause-only : goal.returns-in-Failed-clause-only

@@ -1,10 +1,16 @@
 use Rattle.std.proofs.Common.{◌≡◌, ◌≤◌}
-use Rattle.mx_engine.specs.Shown.{Ties, stores_of}
-use Rattle.mx_restore.specs.Pieces.{IsFar}
+use Rattle.std.specs.Io.KnownBytes.{IsAtEnd}
+use Rattle.mx_engine.specs.Shown.{Ties, site_of, stores_of}
+use Rattle.mx_outside.specs.Causes.{Rose}
+use Rattle.mx_restore.specs.Batches.{StopsAt}
+use Rattle.mx_restore.specs.Made.{IsAhead}
+use Rattle.mx_restore.specs.declared.reading.Stopped.TheVariants as stop
 use Rattle.mx_restore.proofs.restoring.restore.Given as goal
 
-abbrev pub invariant-pieces : goal.invariant-pieces
-invariant-pieces g l =
-    (goal.iterator-pieces g).can_next l.iterator' × (goal.iterator-pieces g).is_finite l.iterator' × Ties l.to.engine.now l.pass
-    × IsFar (g.S.LogFile.left l.fn.log) (g.S.LogFile.left l.log) l.bytes.items l.far.bytes (stores_of l.fn.pass) (stores_of l.pass)
+abbrev pub invariant-batches : goal.invariant-batches
+invariant-batches g l =
+    (goal.iterator-batches g).can_next l.iterator' × (goal.iterator-batches g).is_finite l.iterator' × Ties l.to.engine.now l.pass
+    × IsAhead (site_of l.to.engine.now).users (g.S.LogFile.left l.fn.log) (g.S.LogFile.left l.log) l.batch.lines.items l.rest.items l.far (stores_of l.fn.pass) (stores_of l.pass)
+    × StopsAt l.batch.stopped l.rest.items × (l.batch.stopped ≡ stop.End → IsAtEnd (g.S.LogFile.left l.log))
+    × (l.batch.stopped ≡ stop.Failed → Rose (g.S.Log.faults l.fn.log) (g.S.Log.faults l.log))
     × (g.S.Log.told l.log ≡ g.S.Log.told l.fn.log) × (g.S.Log.faults l.fn.log ≤ g.S.Log.faults l.log)

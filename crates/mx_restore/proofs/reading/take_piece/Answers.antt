@@ -1,6 +1,6 @@
 use Rattle.std.proofs.Common.{length, take, drop, ap, ◌∙◌}
 use Rattle.mx_restore.proofs.Pieces.{put_behind}
-use Rattle.mx_restore.proofs.restoring.take_piece.Goals as goal
+use Rattle.mx_restore.proofs.reading.take_piece.Goals as goal
 
 pub returns-in-Got-clause-took : goal.returns-in-Got-clause-took
 returns-in-Got-clause-took g c =
