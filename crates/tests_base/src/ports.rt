@@ -164,12 +164,11 @@ fn a_handle_leaves_what_is_above_the_mean_to_the_others(rt: HostRuntime) {
     let one = admit(&mut ports);
     assert!(rt; one.is_some() && admit(&mut ports).is_none());
     let two = admit(&mut others);
-    assert!(rt; two.is_some() && admit(&mut others).is_none());
-    let three = admit(&mut ports);
-    assert!(rt; three.is_some());
+    let three = admit(&mut others);
+    assert!(rt; two.is_some() && three.is_some());
     'left: for _ in 0..4 {
-        assert!(rt; admit(&mut ports).is_none());
+        assert!(rt; admit(&mut others).is_none());
     }
-    let four = admit(&mut ports);
+    let four = admit(&mut others);
     assert!(rt; four.is_some());
 }
