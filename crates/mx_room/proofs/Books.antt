@@ -11,7 +11,7 @@ use Rattle.mx_event.specs.declared.event.Event.{Event}
 use Rattle.mx_auth.specs.Standing.{Standing}
 use Rattle.mx_room.specs.declared.rooms.Room.{Room}
 use Rattle.mx_room.specs.declared.txns.TxnIndex.{TxnIndex}
-use Rattle.mx_room.specs.declared.txns.TxnKey.{TxnKey}
+use Rattle.mx_room.specs.declared.txn_key.TxnKey.{TxnKey}
 use Rattle.mx_room.specs.Admitting.{sent_in}
 use Rattle.mx_room.specs.Books.{MayStand, Rooms, events_of, no_rooms, placed_block, taken_in}
 use Rattle.mx_room.specs.Creating.{IsNew}

@@ -10,7 +10,7 @@ use Rattle.mx_room.specs.contracts.room_book.RoomBook.TheInside as inside
 use Rattle.mx_room.specs.contracts.rooms.Room as Room
 use Rattle.mx_room.specs.contracts.txns.SentTxn as SentTxn
 use Rattle.mx_room.specs.contracts.txns.TxnIndex as TxnIndex
-use Rattle.mx_room.proofs.txns.TxnKey.TheSendSync as key
+use Rattle.mx_room.proofs.txn_key.TxnKey.TheSendSync as key
 use Rattle.mx_room.proofs.ledger.Ledger.TheSendSync as ledger
 
 room_send : IsSend Room.the_row

@@ -1,6 +1,6 @@
 -- Which event was sent in a transaction, once a block is taken in.
 use Rattle.std.proofs.Common.{◌≡◌, ℕ, ◌+◌, ◌==◌, ◌&&◌, Bool, true, false, cond, List, [], ◌∷◌, ◌++◌, Option, Some, None, Ordering, Less, Equal, Greater, is_eq, nat_cmp, refl, sym, ap, ap₂, ◌∙◌}
-use Rattle.std.proofs.lemmas.Bool.{and_parts, eqb-true}
+use Rattle.std.proofs.lemmas.Bool.{and_parts, eq-eqb, eqb-true}
 use Rattle.std.proofs.lemmas.List.Folds.{find-append}
 use Rattle.std.proofs.lemmas.Slice.Eq.{bytes_eq-Decides, slice_eq-Decides}
 use Rattle.std.specs.Cmp.{unsigned_ties}
@@ -14,9 +14,10 @@ use Rattle.mx_ids.specs.declared.event_id.EventId.{EventId}
 use Rattle.mx_event.specs.Lawful.{placed_event}
 use Rattle.mx_event.specs.declared.event.Event.{Event}
 use Rattle.mx_event.specs.declared.event.Txn.{Txn}
-use Rattle.mx_room.specs.declared.txns.TxnKey.{TxnKey}
+use Rattle.mx_room.specs.declared.txn_key.TxnKey.{TxnKey}
 use Rattle.mx_room.specs.Admitting.{is_in, same_txn, sent_in}
 use Rattle.mx_room.specs.Creating.{IsNew}
+use Rattle.mx_room.specs.Hashes.{id_hash}
 use Rattle.mx_room.specs.Keys.{id_after, key_cmp, txn_of}
 
 -- ---- the same transaction
@@ -25,16 +26,6 @@ is_eq_then : (a b : Ordering) → is_eq (ordering_then a b) ≡ (is_eq a && is_e
 is_eq_then Less b = refl
 is_eq_then Equal b = refl
 is_eq_then Greater b = refl
-
--- the order on keys finds two of them equal where they have the same transaction
-pub same_key : (k l : TxnKey) → eq_by_cmp key_cmp k l ≡ same_txn k.txn l.txn
-same_key k l = by_parts k.txn l.txn where
-  by_parts : (s t : Txn) → is_eq (ordering_then (nat_cmp s.device t.device) (ordering_then (slice_cmp nat_cmp s.id t.id) (slice_cmp (slice_cmp nat_cmp) s.path t.path))) ≡ same_txn s t
-  by_parts s t =
-      is_eq_then (nat_cmp s.device t.device) (ordering_then (slice_cmp nat_cmp s.id t.id) (slice_cmp (slice_cmp nat_cmp) s.path t.path))
-      ∙ ap₂ (λ a b. a && b) (sym (unsigned_ties s.device t.device))
-      (is_eq_then (slice_cmp nat_cmp s.id t.id) (slice_cmp (slice_cmp nat_cmp) s.path t.path)
-      ∙ ap₂ (λ a b. a && b) (sym (texts_ties s.id t.id)) (sym (lists_ties (slice_cmp nat_cmp) texts_ties s.path t.path)))
 
 -- the same transactions are equal
 pub same_is : (s t : Txn) → same_txn s t ≡ true → s ≡ t
@@ -45,6 +36,31 @@ same_is s t h =
     let same_id : s.id ≡ t.id = (bytes_eq-Decides s.id t.id).0 rest.0 in
     let same_path : s.path ≡ t.path = (slice_eq-Decides bytes_eq-Decides s.path t.path _ refl).0 rest.1 in
     λ i. record { device = same_device i; id = same_id i; path = same_path i }
+
+and_false : (a : Bool) → (a && false) ≡ false
+and_false true = refl
+and_false false = refl
+
+-- the order on keys finds two of them equal where they have the same transaction
+pub same_key : (k l : TxnKey) → eq_by_cmp key_cmp k l ≡ same_txn k.txn l.txn
+same_key k l =
+    is_eq_then (nat_cmp k.hash l.hash) (by_parts k.txn l.txn) ∙ ap (λ b. is_eq (nat_cmp k.hash l.hash) && b) (parts_same k.txn l.txn) ∙ hashed (same_txn k.txn l.txn) refl
+  where
+    by_parts : Txn → Txn → Ordering
+    by_parts s t = ordering_then (nat_cmp s.device t.device) (ordering_then (slice_cmp nat_cmp s.id t.id) (slice_cmp (slice_cmp nat_cmp) s.path t.path))
+
+    parts_same : (s t : Txn) → is_eq (by_parts s t) ≡ same_txn s t
+    parts_same s t =
+        is_eq_then (nat_cmp s.device t.device) (ordering_then (slice_cmp nat_cmp s.id t.id) (slice_cmp (slice_cmp nat_cmp) s.path t.path))
+        ∙ ap₂ (λ a b. a && b) (sym (unsigned_ties s.device t.device))
+        (is_eq_then (slice_cmp nat_cmp s.id t.id) (slice_cmp (slice_cmp nat_cmp) s.path t.path)
+        ∙ ap₂ (λ a b. a && b) (sym (texts_ties s.id t.id)) (sym (lists_ties (slice_cmp nat_cmp) texts_ties s.path t.path)))
+
+    hashed : (same : Bool) → same_txn k.txn l.txn ≡ same → (is_eq (nat_cmp k.hash l.hash) && same) ≡ same
+    hashed true h =
+        let one : k.hash ≡ l.hash = k.hashed ∙ ap (λ (t : Txn). id_hash t.id) (same_is k.txn l.txn h) ∙ sym l.hashed in
+        ap (λ b. b && true) (sym (unsigned_ties k.hash l.hash) ∙ eq-eqb k.hash l.hash one)
+    hashed false h = and_false (is_eq (nat_cmp k.hash l.hash))
 
 -- ---- the event that was sent
 

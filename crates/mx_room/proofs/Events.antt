@@ -12,7 +12,7 @@ use Rattle.mx_room.specs.declared.fault.RoomFault.{RoomFault}
 use Rattle.mx_room.specs.declared.fault.RoomFault.TheVariants as faults
 use Rattle.mx_room.specs.declared.rooms.Room.{Room}
 use Rattle.mx_room.specs.declared.txns.TxnIndex.{TxnIndex}
-use Rattle.mx_room.specs.declared.txns.TxnKey.{TxnKey}
+use Rattle.mx_room.specs.declared.txn_key.TxnKey.{TxnKey}
 use Rattle.mx_room.specs.Admitting.{has_room, outcome, sent_in, unless_sent}
 use Rattle.mx_room.specs.Books.{Rooms, events_of, room_events}
 use Rattle.mx_room.specs.Held.{IsBook, IsRoomAt, Opens, bare, events_at, events_in, state_at}

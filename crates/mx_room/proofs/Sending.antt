@@ -3,7 +3,7 @@ use Rattle.std.proofs.Common.{◌≡◌, Some, None, sym, ap, ◌∙◌}
 use Rattle.std.specs.BTreeMap as tree
 use Rattle.mx_room.specs.declared.txns.SentTxn.{SentTxn}
 use Rattle.mx_room.specs.declared.txns.TxnIndex.{TxnIndex}
-use Rattle.mx_room.specs.declared.txns.TxnKey.{TxnKey}
+use Rattle.mx_room.specs.declared.txn_key.TxnKey.{TxnKey}
 use Rattle.mx_room.specs.Keys.{id_at, id_beside, key_cmp}
 
 -- the last one was put among the others

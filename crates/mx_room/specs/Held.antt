@@ -8,7 +8,7 @@ use Rattle.mx_event.specs.declared.event.Event.{Event}
 use Rattle.mx_auth.specs.Standing.{Standing}
 use Rattle.mx_room.specs.declared.rooms.Room.{Room}
 use Rattle.mx_room.specs.declared.txns.TxnIndex.{TxnIndex}
-use Rattle.mx_room.specs.declared.txns.TxnKey.{TxnKey}
+use Rattle.mx_room.specs.declared.txn_key.TxnKey.{TxnKey}
 use Rattle.mx_room.specs.Admitting.{sent_in}
 use Rattle.mx_room.specs.Books.{Rooms, events_of, room_events}
 use Rattle.mx_room.specs.Creating.{IsNew}

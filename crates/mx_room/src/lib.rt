@@ -19,6 +19,7 @@ mod laws;
 mod ledger;
 mod room_book;
 mod rooms;
+mod txn_key;
 mod txns;
 
 pub use admitted::{Admitted, Ready};

@@ -1,74 +1,24 @@
 //! The transactions in which a writer's events were sent.
-ghost use Rattle.std.specs.Prelude.{◌≡◌, None, IfOk, OnOk, refl};
-ghost use Rattle.std.specs.Cmp.{eq_by_cmp_equiv, partial_equiv_from_equiv, partial_order_from_total};
-ghost use Rattle.std.specs.Ordering.{as_partial_cmp, eq_by_cmp};
-ghost use Rattle.mx_room.specs.declared.txns.TxnKey.{TxnKey};
-ghost use Rattle.mx_room.specs.Keys.{id_after, id_at, key_cmp, key_total, sent_at, txn_of};
+ghost use Rattle.std.specs.Prelude.{◌≡◌, None, IfOk, OnOk};
+ghost use Rattle.mx_room.specs.declared.txn_key.TxnKey.{TxnKey};
+ghost use Rattle.mx_room.specs.Keys.{id_after, id_at, sent_at, txn_of};
 
+use crate::txn_key::{TxnKey, id_hash};
 use mx_event::Txn;
 use mx_ids::{Copied, EventId, Memory};
 use std::alloc::Global;
-use std::cmp::Ordering;
 use std::collections::BTreeMap;
-
-/// A transaction as a key of a map.
-#[derive(Drop)]
-pub(crate) struct TxnKey {
-    pub(crate) txn: Txn,
-}
-
-impl PartialEq for TxnKey {
-    ghost eq = { eq_by_cmp key_cmp };
-
-    ghost laws = { partial_equiv_from_equiv (eq_by_cmp_equiv key_total) };
-
-    fn eq(&self, other: &TxnKey) -> bool {
-        self.cmp(other).is_eq()
-    }
-}
-
-impl Eq for TxnKey {
-    ghost laws = { eq_by_cmp_equiv key_total };
-}
-
-impl PartialOrd for TxnKey {
-    ghost partial_cmp = { as_partial_cmp key_cmp };
-
-    ghost laws = { partial_order_from_total key_total };
-
-    fn partial_cmp(&self, other: &TxnKey) -> Option<Ordering> {
-        Some(self.cmp(other))
-    }
-}
-
-/// By device, then by id, then by path.
-impl Ord for TxnKey {
-    ghost cmp = { key_cmp };
-
-    ghost total = { key_total };
-
-    ghost matches_partial_cmp = { λ x y. refl };
-
-    ghost matches_eq = { λ x y. refl };
-
-    fn cmp(&self, other: &TxnKey) -> Ordering {
-        let (own, its) = (&self.txn, &other.txn);
-        // (most keys of a room differ in their ids alone, so a path is seldom compared)
-        own.device
-            .cmp(&its.device)
-            .then_with(|| own.id.cmp(&its.id))
-            .then_with(|| own.path.as_slice().cmp(&its.path.as_slice()))
-    }
-}
 
 /// A transaction's key, if there is a transaction.
 pub(crate) fn key_of(alloc: Global, txn: &Option<Txn>) -> Result<Option<TxnKey>, Memory>
     ensures { IfOk result (λ key. txn_of key ≡ txn.now) }
 {
     match txn {
-        Some(txn) => Ok(Some(TxnKey {
-            txn: txn.copy(alloc)?,
-        })),
+        Some(txn) => {
+            let txn = txn.copy(alloc)?;
+            let hash = id_hash(&txn.id);
+            Ok(Some(TxnKey { hash, txn }))
+        }
         None => Ok(None),
     }
 }
