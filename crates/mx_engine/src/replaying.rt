@@ -2,7 +2,8 @@
 
 ghost use Rattle.std.specs.Prelude.{◌≡◌, OnOk};
 ghost use Rattle.mx_engine.specs.Again.{with_again, with_record};
-ghost use Rattle.mx_engine.specs.Shown.{Ties, stores_of};
+ghost use Rattle.mx_engine.specs.Places.{IsAlone};
+ghost use Rattle.mx_engine.specs.Shown.{Ties, made_of, stores_of};
 ghost use Rattle.mx_aims.specs.EventsDecided.{decided_events};
 ghost use Rattle.mx_entries.specs.Decided.{decided_entries};
 ghost use Rattle.mx_entries.specs.Lawful.{entry_placed, receipt_placed};
@@ -20,8 +21,8 @@ use std::sync::Wait;
 
 impl<G: Outside> Engine<G> {
     /// Makes a store again, in its place. At `Ok` it is the one store that the pass has seen besides those that it had seen: what its
-    /// writer decides on the draft. The pass is one of this engine's. Nobody else is to store meanwhile: where somebody does
-    /// it answers `Elsewhere`. What was refused may have stored.
+    /// writer decides on the draft. The pass is one of this engine's, and no pass is split off from it. Nobody else is to store meanwhile:
+    /// where somebody does it answers `Elsewhere`. What was refused may have stored.
     pub fn replay_record<R: Wait>(
         &self,
         rt: &R,
@@ -31,6 +32,7 @@ impl<G: Outside> Engine<G> {
     ) -> Result<(), Unreplayed>
         requires ties { Ties self.now pass.old }
         ensures ties { Ties self.now pass.new }
+        ensures alone { IsAlone (made_of pass.old) → IsAlone (made_of pass.new) }
         ensures replayed { OnOk result (stores_of pass.new ≡ with_record store (stores_of pass.old)) }
     {
         match store {
@@ -49,6 +51,7 @@ impl<G: Outside> Engine<G> {
     ) -> Result<(), Unreplayed>
         requires ties { Ties self.now pass.old }
         ensures ties { Ties self.now pass.new }
+        ensures alone { IsAlone (made_of pass.old) → IsAlone (made_of pass.new) }
         ensures others { ((stores_of pass.new).receipts ≡ (stores_of pass.old).receipts) × ((stores_of pass.new).accounts ≡ (stores_of pass.old).accounts) }
         ensures replayed { OnOk result ((stores_of pass.new).events ≡ with_again placed_event decided_events again (stores_of pass.old).events) }
     {
@@ -68,6 +71,7 @@ impl<G: Outside> Engine<G> {
     ) -> Result<(), Unreplayed>
         requires ties { Ties self.now pass.old }
         ensures ties { Ties self.now pass.new }
+        ensures alone { IsAlone (made_of pass.old) → IsAlone (made_of pass.new) }
         ensures others { ((stores_of pass.new).events ≡ (stores_of pass.old).events) × ((stores_of pass.new).accounts ≡ (stores_of pass.old).accounts) }
         ensures replayed { OnOk result ((stores_of pass.new).receipts ≡ with_again receipt_placed decided_receipts again (stores_of pass.old).receipts) }
     {
@@ -87,6 +91,7 @@ impl<G: Outside> Engine<G> {
     ) -> Result<(), Unreplayed>
         requires ties { Ties self.now pass.old }
         ensures ties { Ties self.now pass.new }
+        ensures alone { IsAlone (made_of pass.old) → IsAlone (made_of pass.new) }
         ensures others { ((stores_of pass.new).events ≡ (stores_of pass.old).events) × ((stores_of pass.new).receipts ≡ (stores_of pass.old).receipts) }
         ensures replayed { OnOk result ((stores_of pass.new).accounts ≡ with_again entry_placed decided_entries again (stores_of pass.old).accounts) }
     {

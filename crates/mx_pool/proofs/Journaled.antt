@@ -7,7 +7,8 @@ use Rattle.mx_ids.specs.declared.users.Users.{Users}
 use Rattle.mx_serve.specs.Aims.Asked.{Site}
 use Rattle.mx_fold.specs.Lists.{AreLawful, Grows, Histories}
 use Rattle.mx_serve.specs.OfEngine.Answers.{Stops, counts_of}
-use Rattle.mx_serve.specs.OfEngine.Shown.{Looks, all_started, stores_of}
+use Rattle.mx_serve.specs.OfEngine.Places.{IsAlone}
+use Rattle.mx_serve.specs.OfEngine.Shown.{Looks, stores_of}
 use Rattle.mx_serve.specs.OfEngine.Written.{Made}
 use Rattle.mx_serve.specs.OfEngine.EnginePass.{EnginePass}
 use Rattle.mx_http.specs.declared.call.Call.{Call}
@@ -162,15 +163,15 @@ module _ (b : Beginning) (left written : Change (Option (List ℕ))) (reads writ
 
 -- in mode `pipe` it was served on the journal's engine
 pub ran_pipe_on : (listen : Option (List ℕ)) (name : List ℕ) (said : Said) (w : World) (s : Status) (c : Option (Ended × EnginePass)) (site : Site) (b : Beginning) (limit : ℕ) → listen ≡ None
-    → ((users : Users) × HasUsers (w.file said.users) users × (site ≡ site_for users said.workers)) → b.stops ≡ kept_stops → limit ≡ said.requests → Begins (w.journal name) b.lists → ((m : Made) × (b.made ≡ all_started m))
+    → ((users : Users) × HasUsers (w.file said.users) users × (site ≡ site_for users said.workers)) → b.stops ≡ kept_stops → limit ≡ said.requests → Begins (w.journal name) b.lists → IsAlone b.made
     → IsSome c → IfSome c (λ c. ServesFrom b site.users site.writers limit w.left w.written w.read_faults w.write_faults w.clock s c.0 c.1) → RanModeOn listen name said w s c
-ran_pipe_on listen name said w s None site b limit at users stops same stores made some served = absurd cc
-ran_pipe_on listen name said w s (Some c) site b limit at users stops same stores made some served =
+ran_pipe_on listen name said w s None site b limit at users stops same stores alone some served = absurd cc
+ran_pipe_on listen name said w s (Some c) site b limit at users stops same stores alone some served =
     subst (λ l. RanModeOn l name said w s (Some c)) (sym at) (
       users.0,
       users.1,
       b,
-      record { stops_are = stops; stores = stores; parted = made },
+      record { stops_are = stops; stores = stores; alone = alone },
       subst (λ (k : Site × ℕ). ServesFrom b k.0.users k.0.writers k.1 w.left w.written w.read_faults w.write_faults w.clock s c.0 c.1) (λ i. (users.2 i, same i)) served,
     )
 

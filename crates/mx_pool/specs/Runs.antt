@@ -9,7 +9,7 @@ use Rattle.mx_users.specs.UsersFile.{users_in}
 use Rattle.mx_fold.specs.Lists.{Grows, Histories}
 use Rattle.mx_serve.specs.OfEngine.Answers.{Stops, nothing, stops_at, stops_with}
 use Rattle.mx_serve.specs.Aims.Asked.{Site}
-use Rattle.mx_serve.specs.OfEngine.Shown.{Looks, all_started, none_made, stores_of}
+use Rattle.mx_serve.specs.OfEngine.Shown.{Looks, none_made, stores_of}
 use Rattle.mx_serve.specs.OfEngine.Written.{Made}
 use Rattle.mx_serve.specs.OfEngine.Places.{IsAlone}
 use Rattle.mx_serve.specs.Places.{AreOwn}
@@ -121,11 +121,11 @@ pub record Beginning : Type 0 where
 abbrev pub from_nothing : Beginning
 from_nothing = record { stops = run_stops; lists = nothing; made = none_made }
 
--- an engine on a journal, which has the stores of its whole lines, where its bytes are told; and a pass that was split off
+-- an engine on a journal, which has the stores of its whole lines, where its bytes are told; and its first pass, from which none was split off
 pub record IsOnJournal (told : Option (List ℕ)) (b : Beginning) : Type 0 where
   pub stops_are : b.stops ≡ kept_stops
   pub stores : Begins told b.lists
-  pub parted : (m : Made) × (b.made ≡ all_started m)
+  pub alone : IsAlone b.made
 
 -- one connection of so many requests was served for these users, from a beginning; what its pass has seen, made and looked at in the end is the
 -- pass's that is given back. Where no pass was split off on the way to it nobody else stored: the stores that came are those that the marks tell

@@ -3,8 +3,8 @@ ghost use Rattle.std.specs.Prelude.{◌≡◌, ◌⊎◌, ◌≤◌, None, IfErr
 ghost use Rattle.mx_outside.specs.Causes.{Rose};
 ghost use Rattle.mx_ids.specs.Memory.{refused_memory};
 ghost use Rattle.mx_ids.specs.declared.users.Users.{Users};
-ghost use Rattle.mx_serve.specs.OfEngine.Shown.{Ties, all_started, made_of, site_of, stops_of, stores_of};
-ghost use Rattle.mx_serve.specs.OfEngine.Written.{Made};
+ghost use Rattle.mx_serve.specs.OfEngine.Places.{IsAlone};
+ghost use Rattle.mx_serve.specs.OfEngine.Shown.{Ties, made_of, site_of, stops_of, stores_of};
 ghost use Rattle.mx_pool.specs.Connections.{change, clocked, ends_by, service_of};
 ghost use Rattle.mx_pool.specs.Lines.{Tells, line_of};
 ghost use Rattle.mx_pool.specs.Runs.{HasNone, HasServedFrom, HasUsers, IsKeptCause, ListenerRose, RanModeOn, ServesAt, ServesFrom, ServesOn, TellsListened, TellsNone, TellsOn, TellsUnmade, arrivals, kept_stops, site_for, status_for};
@@ -127,7 +127,7 @@ fn kept_server<F: Files, J: Logs, E: Sink, R: Wait + Threads>(
     ensures stops { IfOk result (λ r. stops_of r.0.engine ≡ kept_stops) }
     ensures limit { IfOk result (λ r. r.0.limit ≡ words.now.requests) }
     ensures stores { IfOk result (λ r. Begins (J.told logs.old name.now) (stores_of r.1)) }
-    ensures made { IfOk result (λ r. (m : Made) × (made_of r.1 ≡ all_started m)) }
+    ensures alone { IfOk result (λ r. IsAlone (made_of r.1)) }
     ensures cause { IfErr result (λ s. IsKeptCause (F.told files.old (said_by words.now).users) (change (F.faults files.old) (F.faults files.new)) (change (J.faults logs.old) (J.faults logs.new)) s) }
     ensures told { MatchResult result (λ r. errors.new ≡ errors.old) (λ s. TellsNone (said_by words.now).users name.now (E.written errors.old) (E.written errors.new) (E.faults errors.old) (E.faults errors.new) s) }
 {

@@ -1,8 +1,8 @@
 //! A server for the users of a file.
 ghost use Rattle.std.specs.Prelude.{◌≡◌, ◌≤◌, IfErr, IfOk};
-ghost use Rattle.mx_serve.specs.OfEngine.Shown.{Ties, all_started, made_of, none_made, site_of, stops_of, stores_of};
+ghost use Rattle.mx_serve.specs.OfEngine.Places.{IsAlone};
+ghost use Rattle.mx_serve.specs.OfEngine.Shown.{Ties, made_of, none_made, site_of, stops_of, stores_of};
 ghost use Rattle.mx_serve.specs.OfEngine.Answers.{nothing};
-ghost use Rattle.mx_serve.specs.OfEngine.Written.{Made};
 ghost use Rattle.mx_pool.specs.Connections.{change, clocked};
 ghost use Rattle.mx_pool.specs.Runs.{ServesUsers, kept_stops, run_stops, site_for};
 ghost use Rattle.mx_restore.specs.Faults.{HasCause};
@@ -90,7 +90,7 @@ pub(crate) fn server_on<J: Logs, R: Wait + Threads>(
     ensures stops { IfOk result (λ r. stops_of r.0.engine ≡ kept_stops) }
     ensures limit { IfOk result (λ r. r.0.limit ≡ limit) }
     ensures stores { IfOk result (λ r. Begins (J.told logs.old name.now) (stores_of r.1)) }
-    ensures made { IfOk result (λ r. (m : Made) × (made_of r.1 ≡ all_started m)) }
+    ensures alone { IfOk result (λ r. IsAlone (made_of r.1)) }
     ensures cause { IfErr result (λ fault. HasCause fault (J.faults logs.old) (J.faults logs.new)) }
 {
     let setup = Setup {

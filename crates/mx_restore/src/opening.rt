@@ -4,8 +4,8 @@ ghost use Rattle.std.specs.Prelude.{◌≡◌, ◌≤◌, true, ℕ, List, IfErr
 ghost use Rattle.mx_journal.specs.Kept.{AreLines};
 ghost use Rattle.mx_log.specs.Logs.{Opens};
 ghost use Rattle.mx_engine.specs.Answers.{nothing, stops_with};
-ghost use Rattle.mx_engine.specs.Shown.{Ties, all_started, made_of, site_of, stops_of, stores_of};
-ghost use Rattle.mx_engine.specs.Written.{Made};
+ghost use Rattle.mx_engine.specs.Places.{IsAlone};
+ghost use Rattle.mx_engine.specs.Shown.{Ties, made_of, site_of, stops_of, stores_of};
 ghost use Rattle.mx_restore.specs.Faults.{HasCause, IsOfLog, IsOfOpening, StaysAt};
 ghost use Rattle.mx_restore.specs.Restored.{Begins, Continues, GoesOn, Restores};
 ghost use Rattle.mx_restore.specs.Wrongs.{TellsWrong};
@@ -23,8 +23,8 @@ use std::alloc::Global;
 use std::sync::Wait;
 use std::thread::Threads;
 
-/// An engine on the journal of a name, which has the stores of its lines, and a pass of it that has seen these. A journal that is missing
-/// or empty is begun. What stands behind the whole lines is cut off; where a line is refused the journal stays as it is, and `Line` comes
+/// An engine on the journal of a name, which has the stores of its lines, and its first pass, which has seen these and from which none was
+/// split off. A journal that is missing or empty is begun. What stands behind the whole lines is cut off; where a line is refused the journal stays as it is, and `Line` comes
 /// only of one that is wrong so, where the stores of all lines before it were made again. `Busy` and `Failed`
 /// come only where the count of faults rose in this call, or stands at its last value.
 pub fn engine_on<J: Logs, R: Wait + Threads>(
@@ -40,7 +40,7 @@ pub fn engine_on<J: Logs, R: Wait + Threads>(
     ensures site { IfOk result (λ r. site_of r.0 ≡ record { users = setup.users; writers = setup.workers }) }
     ensures stops { IfOk result (λ r. stops_of r.0 ≡ stops_with true true true setup.stop) }
     ensures stores { IfOk result (λ r. Begins (J.told logs.old name.now) (stores_of r.1)) }
-    ensures made { IfOk result (λ r. (m : Made) × (made_of r.1 ≡ all_started m)) }
+    ensures alone { IfOk result (λ r. IsAlone (made_of r.1)) }
     ensures count { J.faults logs.old ≤ J.faults logs.new }
     ensures cause { IfErr result (λ fault. HasCause fault (J.faults logs.old) (J.faults logs.new)) }
     ensures wrong { IfErr result (TellsWrong (record { users = setup.users; writers = setup.workers }) (J.told logs.old name.now) nothing) }
@@ -85,51 +85,47 @@ fn engine_from<L: LogFile + Drop + Send + 'static, R: Wait + Threads>(
     ensures site { IfOk result (λ r. site_of r.0 ≡ record { users = setup.users; writers = setup.workers }) }
     ensures stops { IfOk result (λ r. stops_of r.0 ≡ stops_with true true true setup.stop) }
     ensures stores { IfOk result (λ r. Begins (L.left log.old) (stores_of r.1)) }
-    ensures made { IfOk result (λ r. (m : Made) × (made_of r.1 ≡ all_started m)) }
+    ensures alone { IfOk result (λ r. IsAlone (made_of r.1)) }
     ensures kept { IfOk result (λ r. Continues (L.told log.old) (L.left log.old) (L.told log.new)) }
     ensures stays { IfErr result (λ fault. StaysAt fault (L.told log.old) (L.told log.new)) }
     ensures count { L.faults log.old ≤ L.faults log.new }
     ensures cause { IfErr result (λ fault. HasCause fault (L.faults log.old) (L.faults log.new)) }
     ensures wrong { IfErr result (TellsWrong (record { users = setup.users; writers = setup.workers }) (L.left log.old) nothing) }
 {
-    let (engine, mut first) = engine(alloc, setup, Kept::new(alloc)?)?;
-    match pass_from(rt, alloc, &engine, log, &mut first) {
-        Ok(pass) => {
-            drop(first);
-            Ok((engine, pass))
-        }
+    let (engine, mut pass) = engine(alloc, setup, Kept::new(alloc)?)?;
+    match make_stores(rt, alloc, &engine, log, &mut pass) {
+        Ok(()) => Ok((engine, pass)),
         Err(fault) => {
-            drop(first);
+            drop(pass);
             drop(engine);
             Err(fault)
         }
     }
 }
 
-/// Makes the stores of a log's lines again: a new pass that has seen them. The log then has these lines, and behind them the first lines
-/// that it lacked.
-fn pass_from<L: LogFile + Drop + Send + 'static, R: Wait + Threads>(
+/// Makes the stores of a log's lines again. The log then has these lines, and behind them the first lines that it lacked.
+fn make_stores<L: LogFile + Drop + Send + 'static, R: Wait + Threads>(
     rt: &R,
     alloc: Global,
     engine: &Engine<Kept<L>>,
     log: &mut L,
-    first: &mut EnginePass,
-) -> Result<EnginePass, RestoreFault>
-    requires ties { Ties engine.now first.old }
-    ensures pass { IfOk result (λ pass. Ties engine.now pass) }
-    ensures stores { IfOk result (λ pass. Restores (L.left log.old) (stores_of first.old) (stores_of pass)) }
-    ensures made { IfOk result (λ pass. (m : Made) × (made_of pass ≡ all_started m)) }
-    ensures kept { IfOk result (λ pass. Continues (L.told log.old) (L.left log.old) (L.told log.new)) }
+    pass: &mut EnginePass,
+) -> Result<(), RestoreFault>
+    requires ties { Ties engine.now pass.old }
+    ensures ties { Ties engine.now pass.new }
+    ensures stores { OnOk result (Restores (L.left log.old) (stores_of pass.old) (stores_of pass.new)) }
+    ensures alone { IsAlone (made_of pass.old) → IsAlone (made_of pass.new) }
+    ensures kept { OnOk result (Continues (L.told log.old) (L.left log.old) (L.told log.new)) }
     ensures stays { IfErr result (λ fault. StaysAt fault (L.told log.old) (L.told log.new)) }
     ensures count { L.faults log.old ≤ L.faults log.new }
     ensures cause { IfErr result (λ fault. HasCause fault (L.faults log.old) (L.faults log.new)) }
-    ensures wrong { IfErr result (TellsWrong (site_of engine.now) (L.left log.old) (stores_of first.old)) }
+    ensures wrong { IfErr result (λ fault. TellsWrong (site_of engine.now) (L.left log.old) (stores_of pass.old) fault) }
 {
     let desk = engine.outside().desk();
     let to = Restoring { engine, desk };
-    let far = restore(rt, alloc, &to, log, first)?;
+    let far = restore(rt, alloc, &to, log, pass)?;
     go_on(alloc, log, &far, engine.users().users(), engine.writers())?;
-    Ok(engine.pass(alloc, first)?)
+    Ok(())
 }
 
 /// Cuts a log off that was read so far, and puts the first lines that it lacks: that of the journal, and that of the devices.

@@ -4,7 +4,8 @@ ghost use Rattle.std.specs.Prelude.{◌≡◌, ◌≤◌, true, [], Some, IfErr,
 ghost use Rattle.std.specs.Io.KnownBytes.{IsAtEnd};
 ghost use Rattle.mx_engine.specs.Again.{with_record};
 ghost use Rattle.mx_engine.specs.declared.record.Record.{Record};
-ghost use Rattle.mx_engine.specs.Shown.{Ties, site_of, stores_of};
+ghost use Rattle.mx_engine.specs.Places.{IsAlone};
+ghost use Rattle.mx_engine.specs.Shown.{Ties, made_of, site_of, stores_of};
 ghost use Rattle.mx_lines.specs.Lines.{IsOpen};
 ghost use Rattle.mx_outside.specs.Causes.{Rose};
 ghost use Rattle.mx_restore.specs.Batches.{HasReadMore, StopsAt};
@@ -79,6 +80,7 @@ pub fn restore<G: Outside, L: Log + Drop, S: LogFile + Send, R: Wait + Threads>(
 ) -> Result<Restored, RestoreFault>
     requires ties { Ties to.now.engine.now pass.old }
     ensures ties { Ties to.now.engine.now pass.new }
+    ensures alone { IsAlone (made_of pass.old) → IsAlone (made_of pass.new) }
     ensures restored { IfOk result (λ far. Restores (S.left log.old) (stores_of pass.old) (stores_of pass.new)) }
     ensures whole { IfOk result (λ far. CountsWhole (S.left log.old) far.bytes) }
     ensures told { S.told log.new ≡ S.told log.old }
@@ -115,6 +117,7 @@ impl<'a, G: Outside, L: Log + Drop> Restoring<'a, G, L> {
         requires ties { Ties self.now.engine.now pass.old }
         requires rest_open { IsOpen rest.old.items }
         ensures ties { Ties self.now.engine.now pass.new }
+        ensures alone { IsAlone (made_of pass.old) → IsAlone (made_of pass.new) }
         ensures made { OnOk result (MakesLines (site_of self.now.engine.now).users lines.items far.old far.new (stores_of pass.old) (stores_of pass.new)) }
         ensures fault { IfErr result IsOfLines }
         ensures wrong { IfErr result (IsUnmade (site_of self.now.engine.now) lines.items far.old (stores_of pass.old)) }
@@ -140,6 +143,7 @@ impl<'a, G: Outside, L: Log + Drop> Restoring<'a, G, L> {
             &mut || -> Result<(), RestoreFault>
                 requires { Ties self.now.engine.now pass.now }
                 ensures ties { Ties self.entry.now.engine.now pass.exit.now }
+                ensures alone { IsAlone (made_of pass.entry.now) → IsAlone (made_of pass.exit.now) }
                 ensures made { OnOk result (MakesLines (site_of self.entry.now.engine.now).users lines.entry.items far.entry.now far.exit.now (stores_of pass.entry.now) (stores_of pass.exit.now)) }
                 ensures fault { IfErr result IsOfLines }
                 ensures wrong { IfErr result (IsUnmade (site_of self.entry.now.engine.now) lines.entry.items far.entry.now (stores_of pass.entry.now)) }
@@ -168,6 +172,7 @@ impl<'a, G: Outside, L: Log + Drop> Restoring<'a, G, L> {
     ) -> Result<(), RestoreFault>
         requires ties { Ties self.now.engine.now pass.old }
         ensures ties { Ties self.now.engine.now pass.new }
+        ensures alone { IsAlone (made_of pass.old) → IsAlone (made_of pass.new) }
         ensures made { OnOk result (MakesLines (site_of self.now.engine.now).users lines.items far.old far.new (stores_of pass.old) (stores_of pass.new)) }
         ensures fault { IfErr result IsOfLines }
         ensures wrong { IfErr result (IsUnmade (site_of self.now.engine.now) lines.items far.old (stores_of pass.old)) }
@@ -189,6 +194,7 @@ impl<'a, G: Outside, L: Log + Drop> Restoring<'a, G, L> {
     ) -> Result<(), RestoreFault>
         requires ties { Ties self.now.engine.now pass.old }
         ensures ties { Ties self.now.engine.now pass.new }
+        ensures alone { IsAlone (made_of pass.old) → IsAlone (made_of pass.new) }
         ensures made { OnOk result (MakesLine (site_of self.now.engine.now).users line far.old far.new (stores_of pass.old) (stores_of pass.new)) }
         ensures fault { IfErr result IsOfLines }
         ensures wrong { IfErr result (IsRefused (site_of self.now.engine.now) far.old line.value) }
@@ -215,6 +221,7 @@ impl<'a, G: Outside, L: Log + Drop> Restoring<'a, G, L> {
     ) -> Result<(), RestoreFault>
         requires ties { Ties self.now.engine.now pass.old }
         ensures ties { Ties self.now.engine.now pass.new }
+        ensures alone { IsAlone (made_of pass.old) → IsAlone (made_of pass.new) }
         ensures taken { OnOk result (TakesValue json.now (stores_of pass.old) (stores_of pass.new)) }
         ensures far { (far.new.bytes ≡ far.old.bytes) × (far.new.lines ≡ far.old.lines) }
         ensures devices { OnOk result (far.new.devices ≡ devices_by (site_of self.now.engine.now).users far.old.devices json.now) }
@@ -252,6 +259,7 @@ impl<'a, G: Outside, L: Log + Drop> Restoring<'a, G, L> {
     ) -> Result<(), RestoreFault>
         requires ties { Ties self.now.engine.now pass.old }
         ensures ties { Ties self.now.engine.now pass.new }
+        ensures alone { IsAlone (made_of pass.old) → IsAlone (made_of pass.new) }
         ensures made { OnOk result ((r : Record) × Says json.now r × (stores_of pass.new ≡ with_record r (stores_of pass.old))) }
         ensures fault { IfErr result IsOfLines }
         ensures wrong { IfErr result (IsNoStore json.now number) }

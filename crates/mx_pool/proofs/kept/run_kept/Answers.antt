@@ -47,7 +47,7 @@ returns-in-Pipe-clause-ran g c =
     let pass = c.in-Ok.made.1 in
     ran_pipe_on (address_in (way_by c.args.words.now.mode)) c.args.name.now (said_by c.args.words.now) _ done.result.status done.result.connection (site_of server.engine)
     (record { stops = stops_of server.engine; lists = stores_of pass; made = made_of pass }) server.limit (ap (λ m. address_in (way_by m)) c.in-Pipe.is)
-    c.in-Ok.ensures.site c.in-Ok.ensures.stops c.in-Ok.ensures.limit c.in-Ok.ensures.stores c.in-Ok.ensures.made done.ensures.some done.ensures.served
+    c.in-Ok.ensures.site c.in-Ok.ensures.stops c.in-Ok.ensures.limit c.in-Ok.ensures.stores c.in-Ok.ensures.alone done.ensures.some done.ensures.served
 
 pub returns-in-Pipe-clause-listener : goal.returns-in-Pipe-clause-listener
 returns-in-Pipe-clause-listener g c = λ is. absurd (served_listener _ _ _ _ _ _ _ _ _ c.pipe_on.result.status c.pipe_on.result.connection c.pipe_on.ensures.some c.pipe_on.ensures.served is)

@@ -23,6 +23,7 @@ batches-init g c =
       first.ensures.cause,
       first.ensures.told,
       first.ensures.count,
+      λ alone. alone,
     )
 
 pub make_lines-requires : goal.make_lines-requires
@@ -33,6 +34,15 @@ returns-in_err-make_lines-clause-told g c = c.batches.invariant.7
 
 pub returns-in_err-make_lines-clause-count : goal.returns-in_err-make_lines-clause-count
 returns-in_err-make_lines-clause-count g c = c.batches.invariant.8
+
+pub returns-in_err-make_lines-clause-alone : goal.returns-in_err-make_lines-clause-alone
+returns-in_err-make_lines-clause-alone g c = λ alone. c.make_lines.ensures.alone (c.batches.invariant.9 alone)
+
+pub returns-then-not-is_open-clause-alone : goal.returns-then-not-is_open-clause-alone
+returns-then-not-is_open-clause-alone g c = λ alone. c.make_lines.ensures.alone (c.batches.invariant.9 alone)
+
+pub returns-in_err-batch-clause-alone : goal.returns-in_err-batch-clause-alone
+returns-in_err-batch-clause-alone g c = λ alone. c.make_and_read.ensures.alone (c.batches.invariant.9 alone)
 
 pub returns-then-not-is_open-clause-restored : goal.returns-then-not-is_open-clause-restored
 returns-then-not-is_open-clause-restored g c =
@@ -99,6 +109,7 @@ batches-preserved g c =
       λ failed. omega (arith, read.cause failed, l.invariant.8),
       read.told ∙ l.invariant.7,
       omega (arith, read.count, l.invariant.8),
+      λ alone. read.alone (l.invariant.9 alone),
     )
 
 pub returns-in_err-make_lines-clause-wrong : goal.returns-in_err-make_lines-clause-wrong

@@ -18,6 +18,7 @@ lines-init g c =
       c.requires.ties,
       λ after new k. subst (λ (ls : List ReadLine). MakesLines site.users ls far after lists new) is k,
       λ f k. subst (λ (ls : List ReadLine). IsUnmade site ls far lists f) is k,
+      λ alone. alone,
     )
 
 pub lines-preserved : goal.lines-preserved
@@ -34,6 +35,7 @@ lines-preserved g c =
           (line_made site.users line rest l.far far after (stores_of l.pass) seen new made.made k)),
       λ f k. l.invariant.2 f (subst (λ (ls : List ReadLine). IsUnmade site ls l.far (stores_of l.pass) f) (sym c.in-Some.ensures.steps.0)
           (later_refused site line rest l.far far (stores_of l.pass) seen f made.made k)),
+      λ alone. made.alone (l.invariant.3 alone),
     )
 
 pub returns-in_err-make_line-clause-wrong : goal.returns-in_err-make_line-clause-wrong
@@ -44,6 +46,12 @@ returns-in_err-make_line-clause-wrong g c =
     let p = err_from_is_err_and c.from_residual.result c.from_residual.ensures.1 in
     rw (p.1, p.2) (l.invariant.2 fault (subst (λ (ls : List ReadLine). IsUnmade site ls l.far (stores_of l.pass) fault) (sym c.in-Some.ensures.steps.0)
     (first_refused site c.in-Some.line c.next.new.self.rest.items l.far (stores_of l.pass) fault c.in_err-make_line.ensures.wrong)))
+
+pub returns-in_err-make_line-clause-alone : goal.returns-in_err-make_line-clause-alone
+returns-in_err-make_line-clause-alone g c = λ alone. c.make_line.ensures.alone (c.lines.invariant.3 alone)
+
+pub returns-clause-alone : goal.returns-clause-alone
+returns-clause-alone g c = c.lines.invariant.3
 
 pub returns-clause-made : goal.returns-clause-made
 returns-clause-made g c =
