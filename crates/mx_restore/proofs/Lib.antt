@@ -4,5 +4,6 @@ mod Cutting
 mod Making
 mod Ones
 mod Pieces
+mod Sent
 mod Taking
 mod Wrongs

@@ -60,10 +60,10 @@ module _ (users : Users) where
   one_made t l before after old new is h =
       let one : file_of (t ∷ []) ≡ line t = append-nil (line t) in
       record {
-        made = made_one t old new (takes_text t l.value old new is.2 h.taken);
+        made = made_one t old new (takes_text t is.2.0 old new is.2.1 (h.taken is.2.0 is.2.2));
         bytes = λ few. h.bytes ∙ ap (counted before.bytes) (ap length (is.1 ∙ sym one));
         lines = λ few. h.lines;
-        devices = h.devices ∙ ap (devices_read users before.devices) (sym is.2);
+        devices = h.devices is.2.0 is.2.2 ∙ ap (devices_read users before.devices) (sym is.2.1);
       }
 
   pub no_lines_made : (far : Restored) (h : Histories) → MakesLines users [] far far h h

@@ -1,18 +1,22 @@
 -- Lines that are wrong.
-use Rattle.std.proofs.Common.{◌≡◌, inl, inr, ℕ, ◌+◌, List, [], ◌∷◌, ◌++◌, length, Option, Some, Result, refl, sym, ap, subst, ◌∙◌, arith, length-append, append_assoc}
+use Rattle.std.proofs.Common.{◌≡◌, inl, inr, ℕ, ◌+◌, ◌&&◌, List, [], ◌∷◌, ◌++◌, length, Option, Some, Result, refl, sym, ap, subst, ◌∙◌, arith, length-append, append_assoc}
 use Rattle.std.proofs.lemmas.Grind.{flat_map-append}
 use Rattle.std.proofs.lemmas.List.{take-append-le}
 use Rattle.std.specs.List.{AllByRecursion}
 use Rattle.std.specs.Prelude.{IfErr}
 use Rattle.mx_aims.specs.Asked.{Site}
+use Rattle.mx_engine.specs.declared.record.Record.{Record}
 use Rattle.mx_fold.specs.Lists.{Histories}
+use Rattle.mx_json.specs.declared.value.Json.{Json}
 use Rattle.mx_lines.specs.Lines.{IsOpen, file_of, line}
 use Rattle.mx_log.specs.Logs.{Logged, Opens}
-use Rattle.mx_restore.specs.Batches.{AreLinesOf, IsMisread, StopsAt}
-use Rattle.mx_restore.specs.Faults.{IsOfLog, IsOfOpening}
+use Rattle.mx_restore.specs.Batches.{AreLinesOf, IsMisread, IsSaidBy, StopsAt}
+use Rattle.mx_restore.specs.Faults.{IsOfLines, IsOfLog, IsOfOpening}
+use Rattle.mx_restore.specs.Heads.{is_head}
 use Rattle.mx_restore.specs.Made.{IsAhead, IsFar, MakesLine, devices_after, ended_at, no_lines}
 use Rattle.mx_restore.specs.Restored.{counted}
-use Rattle.mx_restore.specs.Wrongs.{FailsAt, IsRefused, IsUnmade, IsWrongAt, IsWrongLine, IsWrongText, IsWrongValue, TellsWrong}
+use Rattle.mx_restore.specs.Wrongs.{FailsAt, IsNoStore, IsRefused, IsUnmade, IsWrongAt, IsWrongLine, IsWrongText, IsWrongValue, TellsWrong}
+use Rattle.mx_restore.specs.declared.reading.LineSaid.TheVariants as line_said
 use Rattle.mx_restore.specs.declared.reading.ReadLine.{ReadLine}
 use Rattle.mx_restore.specs.declared.reading.Stopped.{Stopped}
 use Rattle.mx_restore.specs.declared.reading.Stopped.TheVariants as stop
@@ -26,17 +30,31 @@ use Rattle.mx_restore.proofs.Taking.{all_made, all_open, are_open, none_made, on
 
 -- ---- lines that were read, one after the other
 
-first_fails : (site : Site) (l : ReadLine) (ls : List ReadLine) (far : Restored) (lists : Histories) (number : ℕ) (w : Wrong) → IsRefused site far l.value (Line number w) → (texts : List (List ℕ)) → AreLinesOf texts (l ∷ ls)
+first_fails : (site : Site) (l : ReadLine) (ls : List ReadLine) (far : Restored) (lists : Histories) (number : ℕ) (w : Wrong) → ((j : Json) → IsSaidBy j l.said → IsRefused site far j (Line number w)) → (texts : List (List ℕ)) → AreLinesOf texts (l ∷ ls)
     → FailsAt site texts far lists number w
 first_fails site l ls far lists number w h [] are = absurd are
 first_fails site l ls far lists number w h (t ∷ ts) are =
-    record { front = []; text = t; behind = ts; whole = refl; mid = far; lists = lists; made = none_made site.users far lists; value = l.value; read = are.0.2; number_is = h.0; is = h.1 }
+    let said = are.0.2 in
+    let is = h said.0 said.2 in
+    record { front = []; text = t; behind = ts; whole = refl; mid = far; lists = lists; made = none_made site.users far lists; value = said.0; read = said.1; number_is = is.0; is = is.1 }
 
-pub first_refused : (site : Site) (l : ReadLine) (ls : List ReadLine) (far : Restored) (lists : Histories) (f : RestoreFault) → IsRefused site far l.value f → IsUnmade site (l ∷ ls) far lists f
-first_refused site l ls far lists Busy h = h
-first_refused site l ls far lists (Line number w) h = first_fails site l ls far lists number w h
-first_refused site l ls far lists Failed h = h
-first_refused site l ls far lists (Memory refused) h = tt
+pub first_refused : (site : Site) (l : ReadLine) (ls : List ReadLine) (far : Restored) (lists : Histories) (f : RestoreFault) → IsOfLines f → ((j : Json) → IsSaidBy j l.said → IsRefused site far j f) → IsUnmade site (l ∷ ls) far lists f
+first_refused site l ls far lists Busy of h = absurd of
+first_refused site l ls far lists (Line number w) of h = first_fails site l ls far lists number w h
+first_refused site l ls far lists Failed of h = absurd of
+first_refused site l ls far lists (Memory refused) of h = tt
+
+-- of a store that a line says
+pub store_refused : (site : Site) (far : Restored) (r : Record) (f : RestoreFault) → IsNoStore far.lines f → (j : Json) → IsSaidBy j (line_said.Store r) → IsRefused site far j f
+store_refused site far r Busy why j is = why
+store_refused site far r (Line n wrong.Check) why j is = absurd why
+store_refused site far r (Line n wrong.Long) why j is = absurd why
+store_refused site far r (Line n wrong.Head) why j is = (why.0, (why.1, ap (λ b. b && is_head site.users.server site.writers j) is.1.0))
+store_refused site far r (Line n wrong.Devices) why j is = absurd why
+store_refused site far r (Line n wrong.Text) why j is = absurd why
+store_refused site far r (Line n (wrong.Store cause)) why j is = (why.0, ((why.1, is.1.1), (r, is.0)))
+store_refused site far r Failed why j is = why
+store_refused site far r (Memory refused) why j is = tt
 
 later_fails : (site : Site) (l : ReadLine) (ls : List ReadLine) (before mid : Restored) (old seen : Histories) (number : ℕ) (w : Wrong) → MakesLine site.users l before mid old seen → IsUnmade site ls mid seen (Line number w)
     → (texts : List (List ℕ)) → AreLinesOf texts (l ∷ ls) → FailsAt site texts before old number w

@@ -1,19 +1,33 @@
 -- The lines of a journal as they are read, a batch at a time.
-use Rattle.std.specs.Prelude.{◌≡◌, ℕ, ◌<◌, List, [], ◌∷◌, ◌++◌, Err, Ok, Option, length, take}
+use Rattle.std.specs.Prelude.{◌≡◌, ℕ, ◌<◌, false, List, [], ◌∷◌, ◌++◌, Err, Ok, Option, codes, length, take}
 use Rattle.std.specs.Io.KnownBytes.{Consumes}
+use Rattle.mx_event.specs.Kinds.{is_text}
 use Rattle.mx_json.specs.Reading.{read_json}
 use Rattle.mx_json.specs.declared.fault.JsonFault.{JsonFault}
+use Rattle.mx_json.specs.declared.value.Json.{Json}
 use Rattle.mx_lines.specs.First.{IsWrong}
 use Rattle.mx_lines.specs.Lines.{IsOpen, file_of, line}
+use Rattle.mx_restore.specs.Said.{Says, name_of}
+use Rattle.mx_restore.specs.declared.reading.LineSaid.{LineSaid}
+use Rattle.mx_restore.specs.declared.reading.LineSaid.TheVariants as line_said
 use Rattle.mx_restore.specs.declared.reading.ReadLine.{ReadLine}
 use Rattle.mx_restore.specs.declared.reading.Stopped.{Stopped}
 use Rattle.mx_restore.specs.declared.reading.Stopped.TheVariants as stop
 use Rattle.mx_restore.specs.declared.wrong.Wrong.{Wrong}
 use Rattle.mx_restore.specs.declared.wrong.Wrong.TheVariants as wrong
 
--- a line that was read is the line of a text
+-- a value has no name of a first line, and none of devices
+abbrev pub IsUnnamed : Json → Type 0
+IsUnnamed j = (is_text (codes "mxsync") (name_of j) ≡ false) × (is_text (codes "devices") (name_of j) ≡ false)
+
+-- what a line of this value says
+abbrev pub IsSaidBy : Json → LineSaid → Type 0
+IsSaidBy j (line_said.Store r) = Says j r × IsUnnamed j
+IsSaidBy j (line_said.Other v) = j ≡ v
+
+-- a line that was read is the line of a text, and says what this does
 abbrev pub IsLineOf : List ℕ → ReadLine → Type 0
-IsLineOf text l = IsOpen text × (l.bytes.items ≡ line text) × (read_json text ≡ Ok l.value)
+IsLineOf text l = IsOpen text × (l.bytes.items ≡ line text) × ((j : Json) × (read_json text ≡ Ok j) × IsSaidBy j l.said)
 
 -- lines are those of these texts, in their order
 abbrev pub AreLinesOf : List (List ℕ) → List ReadLine → Type 0

@@ -8,7 +8,7 @@ use Rattle.mx_json.specs.Reading.{read_json}
 use Rattle.mx_json.specs.declared.fault.JsonFault.{JsonFault}
 use Rattle.mx_json.specs.declared.value.Json.{Json}
 use Rattle.mx_lines.specs.Lines.{IsOpen, file_of}
-use Rattle.mx_restore.specs.Batches.{AreLinesOf}
+use Rattle.mx_restore.specs.Batches.{AreLinesOf, IsSaidBy}
 use Rattle.mx_restore.specs.Heads.{devices_in}
 use Rattle.mx_restore.specs.Said.{name_of}
 use Rattle.mx_restore.specs.Restored.{HaveMade, TakesValue, counted}
@@ -33,10 +33,10 @@ devices_after users from (t ∷ ts) = devices_after users (devices_read users fr
 
 -- a line's store was made again, or it says none, and it was counted
 pub record MakesLine (users : Users) (line : ReadLine) (before after : Restored) (old new : Histories) : Type 0 where
-  pub taken : TakesValue line.value old new
+  pub taken : (j : Json) → IsSaidBy j line.said → TakesValue j old new
   pub bytes : after.bytes ≡ counted before.bytes (length line.bytes.items)
   pub lines : after.lines ≡ counted before.lines 1
-  pub devices : after.devices ≡ devices_by users before.devices line.value
+  pub devices : (j : Json) → IsSaidBy j line.said → after.devices ≡ devices_by users before.devices j
 
 -- the stores that texts say were made again, and their lines were counted
 pub record HasMade (users : Users) (texts : List (List ℕ)) (before after : Restored) (old new : Histories) : Type 0 where

@@ -34,12 +34,12 @@ IsWrongValue site lines devices j wrong.Devices = (is_text (codes "devices") (na
 IsWrongValue site lines devices j wrong.Text = IsStoreLine lines j
 IsWrongValue site lines devices j (wrong.Store why) = IsStoreLine lines j × ((r : Record) × Says j r)
 
--- why the store that a value says isn't made again, where the line has this number
-abbrev pub IsNoStore : Json → ℕ → RestoreFault → Type 0
-IsNoStore j number (Line n wrong.Text) = n ≡ number
-IsNoStore j number (Line n (wrong.Store why)) = (n ≡ number) × ((r : Record) × Says j r)
-IsNoStore j number (Memory refused) = Unit {0}
-IsNoStore j number other = ⊥
+-- why a store isn't made again behind so many lines
+abbrev pub IsNoStore : ℕ → RestoreFault → Type 0
+IsNoStore lines (Line n wrong.Head) = (n ≡ counted lines 1) × (lines ≡ 0)
+IsNoStore lines (Line n (wrong.Store why)) = (n ≡ counted lines 1) × (lines ≡ 0 → ⊥)
+IsNoStore lines (Memory refused) = Unit {0}
+IsNoStore lines other = ⊥
 
 -- why the store of a line's value isn't made again
 abbrev pub IsRefused : Site → Restored → Json → RestoreFault → Type 0

@@ -7,9 +7,12 @@ ghost use Rattle.mx_lines.specs.Lines.{IsOpen};
 ghost use Rattle.mx_outside.specs.Causes.{Rose};
 ghost use Rattle.mx_outside.specs.Moves.{FitsRoom, Moves};
 ghost use Rattle.mx_restore.specs.declared.reading.ReadLine.{ReadLine};
-ghost use Rattle.mx_restore.specs.Batches.{HasRead, HasReadMore, ReadsOne, StopsAt, StopsHere, StopsText};
+ghost use Rattle.mx_restore.specs.Batches.{HasRead, HasReadMore, IsSaidBy, ReadsOne, StopsAt, StopsHere, StopsText};
 
+use crate::heads::is_named;
+use crate::records::read_record;
 use crate::wrong::Wrong;
+use mx_engine::Record;
 use mx_ids::Memory;
 use mx_json::{Json, JsonFault, read};
 use mx_lines::{First, first_line};
@@ -31,8 +34,15 @@ const LONGEST: usize = 67_108_864;
 pub(crate) struct ReadLine {
     /// The whole line.
     pub(crate) bytes: Vec<u8>,
-    /// What its text says.
-    pub(crate) value: Json,
+    pub(crate) said: LineSaid,
+}
+
+/// What a line says.
+#[derive(Drop)]
+pub(crate) enum LineSaid {
+    Store(Record),
+    /// A value that says no store, with the name of a first line, that of devices, or another.
+    Other(Json),
 }
 
 /// Why no more lines are read.
@@ -213,8 +223,9 @@ fn read_first<'a>(
     match first_line(bytes) {
         First::Line(text, behind) => {
             let value = read_text(alloc, text)?;
+            let said = said_by(alloc, value)?;
             let line = &bytes[..bytes.len() - behind.len()];
-            push_line(alloc, lines, line, value)?;
+            push_line(alloc, lines, line, said)?;
             Ok(behind)
         }
         First::Open => Err(Stopped::Open),
@@ -234,18 +245,31 @@ fn read_text(alloc: Global, text: &[u8]) -> Result<Json, Stopped>
     }
 }
 
-/// Puts a line, of which a copy is made, and its value behind others.
+/// What a line of this value says.
+fn said_by(alloc: Global, value: Json) -> Result<LineSaid, Memory>
+    ensures { IfOk result (λ said. IsSaidBy value said) }
+{
+    if is_named(&value, "mxsync") || is_named(&value, "devices") {
+        return Ok(LineSaid::Other(value));
+    }
+    match read_record(alloc, &value)? {
+        Some(store) => Ok(LineSaid::Store(store)),
+        None => Ok(LineSaid::Other(value)),
+    }
+}
+
+/// Puts a line, of which a copy is made, and what it says behind others.
 fn push_line(
     alloc: Global,
     lines: &mut Vec<ReadLine>,
     line: &[u8],
-    value: Json,
+    said: LineSaid,
 ) -> Result<(), Memory>
-    ensures pushed { OnOk result ((l : ReadLine) × (lines.new.items ≡ lines.old.items ++ l ∷ []) × (l.bytes.items ≡ line.now) × (l.value ≡ value)) }
+    ensures pushed { OnOk result ((l : ReadLine) × (lines.new.items ≡ lines.old.items ++ l ∷ []) × (l.bytes.items ≡ line.now) × (l.said ≡ said)) }
     ensures same { OnErr result (lines.new.items ≡ lines.old.items) }
 {
     let bytes = Vec::from_slice(alloc, line)?;
-    lines.push(ReadLine { bytes, value })?;
+    lines.push(ReadLine { bytes, said })?;
     Ok(())
 }
 

@@ -3,24 +3,22 @@
 ghost use Rattle.std.specs.Prelude.{◌≡◌, ◌≤◌, true, [], Some, IfErr, IfOk, OnOk};
 ghost use Rattle.std.specs.Io.KnownBytes.{IsAtEnd};
 ghost use Rattle.mx_engine.specs.Again.{with_record};
-ghost use Rattle.mx_engine.specs.declared.record.Record.{Record};
 ghost use Rattle.mx_engine.specs.Places.{IsAlone};
 ghost use Rattle.mx_engine.specs.Shown.{Ties, made_of, site_of, stores_of};
 ghost use Rattle.mx_lines.specs.Lines.{IsOpen};
 ghost use Rattle.mx_outside.specs.Causes.{Rose};
-ghost use Rattle.mx_restore.specs.Batches.{HasReadMore, StopsAt};
+ghost use Rattle.mx_restore.specs.Batches.{HasReadMore, IsSaidBy, StopsAt};
 ghost use Rattle.mx_restore.specs.Faults.{HasCause, IsOfLines};
 ghost use Rattle.mx_restore.specs.Made.{MakesLine, MakesLines, devices_by, ended_at};
-ghost use Rattle.mx_restore.specs.Restored.{CountsWhole, Restores, TakesValue};
-ghost use Rattle.mx_restore.specs.Said.{Says};
+ghost use Rattle.mx_restore.specs.Restored.{CountsWhole, Restores};
+ghost use Rattle.mx_restore.specs.Said.{IsOtherValue};
 ghost use Rattle.mx_restore.specs.Wrongs.{IsNoStore, IsRefused, IsUnmade, TellsWrong};
 
 use crate::heads::{devices_in, is_first, is_named};
-use crate::reading::{Batch, ReadLine, Stopped, read_batch};
-use crate::records::read_record;
+use crate::reading::{Batch, LineSaid, ReadLine, Stopped, read_batch};
 use crate::wrong::{RestoreFault, Wrong};
 use mx_desk::Desk;
-use mx_engine::{Engine, EnginePass, Outside, Unreplayed};
+use mx_engine::{Engine, EnginePass, Outside, Record, Unreplayed};
 use mx_json::Json;
 use mx_log::{Log, LogFile};
 use std::alloc::Global;
@@ -183,7 +181,7 @@ impl<'a, G: Outside, L: Log + Drop> Restoring<'a, G, L> {
         Ok(())
     }
 
-    /// Makes the store of a line again.
+    /// Makes the store of a line again, or takes in what else it says.
     fn make_line<R: Wait>(
         &self,
         rt: &R,
@@ -197,32 +195,27 @@ impl<'a, G: Outside, L: Log + Drop> Restoring<'a, G, L> {
         ensures alone { IsAlone (made_of pass.old) → IsAlone (made_of pass.new) }
         ensures made { OnOk result (MakesLine (site_of self.now.engine.now).users line far.old far.new (stores_of pass.old) (stores_of pass.new)) }
         ensures fault { IfErr result IsOfLines }
-        ensures wrong { IfErr result (IsRefused (site_of self.now.engine.now) far.old line.value) }
+        ensures wrong { IfErr result (λ fault. (j : Json) → IsSaidBy j line.said → IsRefused (site_of self.now.engine.now) far.old j fault) }
     {
-        let ReadLine { bytes, value } = line;
+        let ReadLine { bytes, said } = line;
         let count = bytes.len() as u64;
-        let taken = self.take_value(rt, alloc, bytes, &value, far, pass);
-        drop(value);
-        taken?;
+        match said {
+            LineSaid::Store(store) => self.make_again(rt, alloc, bytes, store, far.lines, pass)?,
+            LineSaid::Other(value) => {
+                drop(bytes);
+                let taken = self.take_value(&value, far);
+                drop(value);
+                taken?;
+            }
+        }
         far.lines = far.lines.saturating_add(1);
         far.bytes = far.bytes.saturating_add(count);
         Ok(())
     }
 
-    /// Makes the store that a line's value says again.
-    fn take_value<R: Wait>(
-        &self,
-        rt: &R,
-        alloc: Global,
-        line: Vec<u8>,
-        json: &Json,
-        far: &mut Restored,
-        pass: &mut EnginePass,
-    ) -> Result<(), RestoreFault>
-        requires ties { Ties self.now.engine.now pass.old }
-        ensures ties { Ties self.now.engine.now pass.new }
-        ensures alone { IsAlone (made_of pass.old) → IsAlone (made_of pass.new) }
-        ensures taken { OnOk result (TakesValue json.now (stores_of pass.old) (stores_of pass.new)) }
+    /// Takes in a value that says no store: that of the first line, or devices.
+    fn take_value(&self, json: &Json, far: &mut Restored) -> Result<(), RestoreFault>
+        ensures named { OnOk result (IsOtherValue json.now) }
         ensures far { (far.new.bytes ≡ far.old.bytes) × (far.new.lines ≡ far.old.lines) }
         ensures devices { OnOk result (far.new.devices ≡ devices_by (site_of self.now.engine.now).users far.old.devices json.now) }
         ensures fault { IfErr result IsOfLines }
@@ -244,29 +237,30 @@ impl<'a, G: Outside, L: Log + Drop> Restoring<'a, G, L> {
             far.devices = far.devices.saturating_add(count);
             return Ok(());
         }
-        self.make_again(rt, alloc, line, json, number, pass)
+        Err(RestoreFault::Line(number, Wrong::Text))
     }
 
-    /// Makes a store again, whose line has to be this one.
+    /// Makes a store again, whose line has to be this one, behind so many lines.
     fn make_again<R: Wait>(
         &self,
         rt: &R,
         alloc: Global,
         line: Vec<u8>,
-        json: &Json,
-        number: u64,
+        store: Record,
+        lines: u64,
         pass: &mut EnginePass,
     ) -> Result<(), RestoreFault>
         requires ties { Ties self.now.engine.now pass.old }
         ensures ties { Ties self.now.engine.now pass.new }
         ensures alone { IsAlone (made_of pass.old) → IsAlone (made_of pass.new) }
-        ensures made { OnOk result ((r : Record) × Says json.now r × (stores_of pass.new ≡ with_record r (stores_of pass.old))) }
+        ensures made { OnOk result (stores_of pass.new ≡ with_record store (stores_of pass.old)) }
         ensures fault { IfErr result IsOfLines }
-        ensures wrong { IfErr result (IsNoStore json.now number) }
+        ensures wrong { IfErr result (IsNoStore lines) }
     {
-        let Some(store) = read_record(alloc, json)? else {
-            return Err(RestoreFault::Line(number, Wrong::Text));
-        };
+        let number = lines.saturating_add(1);
+        if lines == 0 {
+            return Err(RestoreFault::Line(number, Wrong::Head));
+        }
         self.desk.replay(rt, line);
         match self.engine.replay_record(rt, alloc, pass, store) {
             Ok(()) => Ok(()),

@@ -45,7 +45,7 @@ returns-in_err-make_line-clause-wrong g c =
     let fault = c.in_err-make_line.field-0.0 in
     let p = err_from_is_err_and c.from_residual.result c.from_residual.ensures.1 in
     rw (p.1, p.2) (l.invariant.2 fault (subst (λ (ls : List ReadLine). IsUnmade site ls l.far (stores_of l.pass) fault) (sym c.in-Some.ensures.steps.0)
-    (first_refused site c.in-Some.line c.next.new.self.rest.items l.far (stores_of l.pass) fault c.in_err-make_line.ensures.wrong)))
+    (first_refused site c.in-Some.line c.next.new.self.rest.items l.far (stores_of l.pass) fault c.in_err-make_line.ensures.fault c.in_err-make_line.ensures.wrong)))
 
 pub returns-in_err-make_line-clause-alone : goal.returns-in_err-make_line-clause-alone
 returns-in_err-make_line-clause-alone g c = λ alone. c.make_line.ensures.alone (c.lines.invariant.3 alone)
