@@ -17,7 +17,7 @@ use Rattle.mx_event.specs.declared.event.Txn.{Txn}
 use Rattle.mx_room.specs.declared.txn_key.TxnKey.{TxnKey}
 use Rattle.mx_room.specs.Admitting.{is_in, same_txn, sent_in}
 use Rattle.mx_room.specs.Creating.{IsNew}
-use Rattle.mx_room.specs.Hashes.{id_hash}
+use Rattle.mx_room.specs.Ranks.{id_rank}
 use Rattle.mx_room.specs.Keys.{id_after, key_cmp, txn_of}
 
 -- ---- the same transaction
@@ -44,7 +44,7 @@ and_false false = refl
 -- the order on keys finds two of them equal where they have the same transaction
 pub same_key : (k l : TxnKey) → eq_by_cmp key_cmp k l ≡ same_txn k.txn l.txn
 same_key k l =
-    is_eq_then (nat_cmp k.hash l.hash) (by_parts k.txn l.txn) ∙ ap (λ b. is_eq (nat_cmp k.hash l.hash) && b) (parts_same k.txn l.txn) ∙ hashed (same_txn k.txn l.txn) refl
+    is_eq_then (nat_cmp k.rank l.rank) (by_parts k.txn l.txn) ∙ ap (λ b. is_eq (nat_cmp k.rank l.rank) && b) (parts_same k.txn l.txn) ∙ ranked (same_txn k.txn l.txn) refl
   where
     by_parts : Txn → Txn → Ordering
     by_parts s t = ordering_then (nat_cmp s.device t.device) (ordering_then (slice_cmp nat_cmp s.id t.id) (slice_cmp (slice_cmp nat_cmp) s.path t.path))
@@ -56,11 +56,11 @@ same_key k l =
         (is_eq_then (slice_cmp nat_cmp s.id t.id) (slice_cmp (slice_cmp nat_cmp) s.path t.path)
         ∙ ap₂ (λ a b. a && b) (sym (texts_ties s.id t.id)) (sym (lists_ties (slice_cmp nat_cmp) texts_ties s.path t.path)))
 
-    hashed : (same : Bool) → same_txn k.txn l.txn ≡ same → (is_eq (nat_cmp k.hash l.hash) && same) ≡ same
-    hashed true h =
-        let one : k.hash ≡ l.hash = k.hashed ∙ ap (λ (t : Txn). id_hash t.id) (same_is k.txn l.txn h) ∙ sym l.hashed in
-        ap (λ b. b && true) (sym (unsigned_ties k.hash l.hash) ∙ eq-eqb k.hash l.hash one)
-    hashed false h = and_false (is_eq (nat_cmp k.hash l.hash))
+    ranked : (same : Bool) → same_txn k.txn l.txn ≡ same → (is_eq (nat_cmp k.rank l.rank) && same) ≡ same
+    ranked true h =
+        let one : k.rank ≡ l.rank = k.ranked ∙ ap (λ (t : Txn). id_rank t.id) (same_is k.txn l.txn h) ∙ sym l.ranked in
+        ap (λ b. b && true) (sym (unsigned_ties k.rank l.rank) ∙ eq-eqb k.rank l.rank one)
+    ranked false h = and_false (is_eq (nat_cmp k.rank l.rank))
 
 -- ---- the event that was sent
 

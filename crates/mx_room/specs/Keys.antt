@@ -1,4 +1,4 @@
--- The transactions of a writer's events, by the hash of the id, device, id and path.
+-- The transactions of a writer's events, by the rank of the id, device, id and path.
 use Rattle.std.specs.Prelude.{ℕ, List, Option, Some, None, option_map, if◌then◌else◌}
 use Rattle.std.specs.BTreeMap as tree
 use Rattle.std.specs.Cmp.{IsTotalOrder, nat_cmp_total, on_total, then_total}
@@ -20,15 +20,15 @@ id_of k = k.txn.id
 abbrev pub path_of : TxnKey → List (List ℕ)
 path_of k = k.txn.path
 
-abbrev pub hash_of : TxnKey → ℕ
-hash_of k = k.hash
+abbrev pub rank_of : TxnKey → ℕ
+rank_of k = k.rank
 
--- by the hash, then by device, by id and by path
+-- by the rank, then by device, by id and by path
 abbrev pub key_cmp : TxnKey → TxnKey → Ordering
-key_cmp = then_cmp (on hash_of nat_cmp) (then_cmp (on device_of nat_cmp) (then_cmp (on id_of (slice_cmp nat_cmp)) (on path_of (slice_cmp (slice_cmp nat_cmp)))))
+key_cmp = then_cmp (on rank_of nat_cmp) (then_cmp (on device_of nat_cmp) (then_cmp (on id_of (slice_cmp nat_cmp)) (on path_of (slice_cmp (slice_cmp nat_cmp)))))
 
 pub key_total : IsTotalOrder key_cmp
-key_total = then_total (on_total hash_of nat_cmp_total) (then_total (on_total device_of nat_cmp_total) (then_total (on_total id_of (lists_total nat_cmp_total)) (on_total path_of (lists_total (lists_total nat_cmp_total)))))
+key_total = then_total (on_total rank_of nat_cmp_total) (then_total (on_total device_of nat_cmp_total) (then_total (on_total id_of (lists_total nat_cmp_total)) (on_total path_of (lists_total (lists_total nat_cmp_total)))))
 
 -- the event of a transaction once that of another is set
 abbrev pub id_after : Option TxnKey → EventId → TxnKey → Option EventId → Option EventId

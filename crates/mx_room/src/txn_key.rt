@@ -1,18 +1,21 @@
 //! Transactions as keys.
 ghost use Rattle.std.specs.Prelude.{◌≡◌};
-ghost use Rattle.mx_room.specs.Hashes.{id_hash};
+ghost use Rattle.mx_room.specs.Ranks.{id_rank, with_digit};
 
 use mx_event::Txn;
 use mx_ids::Text;
 use std::cmp::Ordering;
-use std::hash::{FoldHasher, Hasher};
 
-/// A transaction as a key of a map, with a hash of its id, by which most keys differ.
+/// How many bytes of an id its rank is made of.
+const RANKED: usize = 8;
+
+/// A transaction as a key of a map, with a rank of its id, by which most keys differ. Ids that a client counts have ranks beside each
+/// other, so that what was looked up last lies where the next look-up goes.
 #[derive(Drop)]
 pub(crate) struct TxnKey {
-    pub(crate) hash: u64,
+    pub(crate) rank: u64,
     pub(crate) txn: Txn,
-    ghost hashed: { hash ≡ id_hash txn.id },
+    ghost ranked: { rank ≡ id_rank txn.id },
 }
 
 impl PartialEq for TxnKey {
@@ -50,7 +53,7 @@ impl PartialOrd for TxnKey {
     }
 }
 
-/// By the hash of the id, then by device, by id and by path. Ids with one hash, which a client could find, are told apart as any texts are.
+/// By the rank of the id, then by device, by id and by path. Ids with one rank, as those that end alike, are told apart as any texts are.
 impl Ord for TxnKey {
     ghost use Rattle.std.specs.Prelude.{refl};
     ghost use Rattle.mx_room.specs.Keys.{key_cmp, key_total};
@@ -65,19 +68,29 @@ impl Ord for TxnKey {
 
     fn cmp(&self, other: &TxnKey) -> Ordering {
         let (own, its) = (&self.txn, &other.txn);
-        self.hash
-            .cmp(&other.hash)
+        self.rank
+            .cmp(&other.rank)
             .then_with(|| own.device.cmp(&its.device))
             .then_with(|| own.id.cmp(&its.id))
             .then_with(|| own.path.as_slice().cmp(&its.path.as_slice()))
     }
 }
 
-/// The hash of a transaction's id.
-pub(crate) fn id_hash(id: &Text) -> u64
-    ensures { result ≡ id_hash id.now }
+/// The rank of a transaction's id: the number whose digits in base 256 are its last eight bytes.
+pub(crate) fn id_rank(id: &Text) -> u64
+    ensures { result ≡ id_rank id.now }
 {
-    let mut hasher = FoldHasher::default();
-    hasher.write(id.as_str().as_bytes());
-    hasher.finish()
+    let bytes = id.as_str().as_bytes();
+    let last = &bytes[bytes.len().saturating_sub(RANKED)..];
+    let mut rank = 0u64;
+    'bytes: for byte in last {
+        rank = with_digit(rank, *byte);
+    }
+    rank
+}
+
+fn with_digit(rank: u64, digit: u8) -> u64
+    ensures { result ≡ with_digit rank digit }
+{
+    rank.wrapping_mul(256).wrapping_add(u64::from(digit))
 }

@@ -3,7 +3,7 @@ ghost use Rattle.std.specs.Prelude.{◌≡◌, None, IfOk, OnOk};
 ghost use Rattle.mx_room.specs.declared.txn_key.TxnKey.{TxnKey};
 ghost use Rattle.mx_room.specs.Keys.{id_after, id_at, sent_at, txn_of};
 
-use crate::txn_key::{TxnKey, id_hash};
+use crate::txn_key::{TxnKey, id_rank};
 use mx_event::Txn;
 use mx_ids::{Copied, EventId, Memory};
 use std::alloc::Global;
@@ -16,8 +16,8 @@ pub(crate) fn key_of(alloc: Global, txn: &Option<Txn>) -> Result<Option<TxnKey>,
     match txn {
         Some(txn) => {
             let txn = txn.copy(alloc)?;
-            let hash = id_hash(&txn.id);
-            Ok(Some(TxnKey { hash, txn }))
+            let rank = id_rank(&txn.id);
+            Ok(Some(TxnKey { rank, txn }))
         }
         None => Ok(None),
     }

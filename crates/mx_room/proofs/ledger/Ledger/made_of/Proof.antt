@@ -5,14 +5,14 @@ use seplogic.Ra.Ura.{Ura}
 use mir.Syntax.{Fn, named, a_type}
 use mir.MapTy.{inst_fn}
 use mir.Val.{Val, vptr, vstruct, vnil}
-use base.Logic.{SProp, ent, emp, via, fst∗}
+use base.Logic.{ent, emp, via, fst∗}
 use prog.Wp.{Calls, Loops, WpFn, Tables}
 use types.Logic.{Logic}
 use contract.Lifetimes.{Lfts, Shares}
 use contract.Monad.{fact}
 use contract.Running.{tables, tables_of}
 use sound.WpLaws.{WpFn-mono}
-use types.Kit.{‵, raw, ◌$◌, ◌∵◌, !, qed, drop, keep, move, suffices, done}
+use types.Kit.{‵, raw, ◌$◌, ◌∵◌, !, qed, move, suffices, done}
 use types.Run.{no_more, returns, enter}
 use types.Part.{agg}
 use types.ByLocal.{alloc_all, pass_all, free_all, look_at, sets}
@@ -22,7 +22,6 @@ use denote.RattleType.{RattleType, owns}
 use denote.Ref.{shr_vals, shr_Tells}
 use denote.Shadow.{pure_i}
 use denote.Signature.{plain, shr_ref_to, types_at}
-use denote.Steps.{nothing}
 use denote.Triple.Carry.{spared}
 use denote.Triple.Clauses.{Clauses, Ended, closing}
 use denote.Triple.Entry.{on_entry, alive, Args}
