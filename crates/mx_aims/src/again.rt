@@ -1,6 +1,6 @@
 //! The drafts of stored events, on which they are decided again.
 
-ghost use Rattle.std.specs.Prelude.{◌≡◌, IfSome, map, true};
+ghost use Rattle.std.specs.Prelude.{◌≡◌, IfOk, IfSome, map, true};
 ghost use Rattle.std.specs.List.{list_all};
 ghost use Rattle.mx_create.specs.Admitted.{is_block, is_unplaced};
 ghost use Rattle.mx_aims.specs.Again.{is_one, plan_by, unplaced};
@@ -9,21 +9,26 @@ ghost use Rattle.mx_aims.specs.EventsDecided.{plan_of};
 use crate::creation::Creation;
 use crate::events::EventDraft;
 use mx_event::Draft;
-use mx_ids::{RoomId, Seq};
+use mx_ids::{Memory, RoomId, Seq};
+use mx_room::weigh;
+use std::alloc::Global;
 
 /// The most events that a room is created with.
 const MOST_EVENTS: usize = 512;
 
 /// What the drafts of one store's events ask: one event of a room, or a room with its first events, which have no position of their
-/// room. `None` where they are none of both.
+/// room. `None` where they are none of both, and `Memory` where the allocator refuses.
 #[tactic(auto, using(crate::proofs::Plans::block_plan))]
-pub fn event_draft(drafts: Seq<Draft>) -> Option<EventDraft>
-    ensures { IfSome result (λ d. plan_of d ≡ plan_by drafts) }
+pub fn event_draft(alloc: Global, drafts: Seq<Draft>) -> Result<Option<EventDraft>, Memory>
+    ensures { IfOk result (λ found. IfSome found (λ d. plan_of d ≡ plan_by drafts)) }
 {
     if is_one(drafts.as_slice()) {
-        return only(drafts);
+        return only(alloc, drafts);
     }
-    Some(EventDraft::Block(creation(unplaced(drafts))?))
+    match creation(unplaced(drafts)) {
+        Some(creation) => Ok(Some(EventDraft::Block(creation))),
+        None => Ok(None),
+    }
 }
 
 /// Whether this is one draft, of a room with a position.
@@ -37,13 +42,13 @@ fn is_one(drafts: &[Draft]) -> bool
 }
 
 /// The only one of some drafts.
-fn only(drafts: Seq<Draft>) -> Option<EventDraft>
+fn only(alloc: Global, drafts: Seq<Draft>) -> Result<Option<EventDraft>, Memory>
     requires { is_one drafts ≡ true }
-    ensures { IfSome result (λ d. plan_of d ≡ plan_by drafts) }
+    ensures { IfOk result (λ found. IfSome found (λ d. plan_of d ≡ plan_by drafts)) }
 {
     match drafts.into_vec().pop() {
-        Some(draft) => Some(EventDraft::One(draft)),
-        None => None,
+        Some(draft) => Ok(Some(EventDraft::One(weigh(alloc, draft)?))),
+        None => Ok(None),
     }
 }
 

@@ -20,6 +20,7 @@ use Rattle.mx_restore.specs.contracts.reading.Batch as Batch
 use Rattle.mx_restore.specs.contracts.reading.LineSaid as LineSaid
 use Rattle.mx_restore.specs.contracts.reading.ReadLine as ReadLine
 use Rattle.mx_restore.proofs.reading.Stopped.TheSendSync as stopped
+use Rattle.mx_room.proofs.Crosses.{weighed_send}
 use Rattle.mx_rules.proofs.rule.Kind.TheSendSync as kind
 
 draft_send : IsSend Draft.the_row
@@ -29,7 +30,7 @@ creation_send : IsSend Creation.the_row
 creation_send = declared_send Creation.the_type (search (draft_send, crosses, sendable) depth 12, tt)
 
 event_send : IsSend EventDraft.the_row
-event_send = variants_send EventDraft.enum ((draft_send, tt), ((draft_send, tt), ((draft_send, (search (user.the_send, sendable) depth 9, tt)), ((creation_send, tt), tt))))
+event_send = variants_send EventDraft.enum ((weighed_send, tt), ((weighed_send, tt), ((weighed_send, (search (user.the_send, sendable) depth 9, tt)), ((creation_send, tt), tt))))
 
 change_send : IsSend RuleChange.the_row
 change_send = variants_send RuleChange.enum (

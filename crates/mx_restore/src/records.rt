@@ -49,7 +49,7 @@ fn events_record(alloc: Global, json: &Json) -> Result<Option<Record>, Memory>
         items,
         first,
     } = line;
-    let Some(draft) = event_draft(items) else {
+    let Some(draft) = event_draft(alloc, items)? else {
         return Ok(None);
     };
     Ok(Some(Record::Events(Again {

@@ -6,3 +6,4 @@ pub mod Held
 pub mod Keys
 pub mod Ranks
 pub mod Storing
+pub mod Weighing

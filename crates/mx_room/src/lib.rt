@@ -1,6 +1,6 @@
 //! The rooms of one writer: which drafts they admit, and what they are after the writer's stores.
 //!
-//! The type is [`RoomBook`], which contracts see as the writer's own stores. The call is `admit`: what becomes of a
+//! The type is [`RoomBook`], which contracts see as the writer's own stores. The calls are `weigh`, which needs no room, and `admit`: what becomes of a
 //! draft is what its definition says of these stores. It is an event that may be stored, the id of the event that the
 //! device sent before in the same transaction (Client-Server API, Transaction identifiers), or a refusal, by the
 //! first cause in their order; a refusal leaves the rooms as they were. `take_in` then stores the block that is
@@ -21,8 +21,10 @@ mod room_book;
 mod rooms;
 mod txn_key;
 mod txns;
+mod weighed;
 
 pub use admitted::{Admitted, Ready};
 pub use fault::RoomFault;
 pub use laws::ready_is_lawful;
 pub use room_book::{RoomBook, book};
+pub use weighed::{Weighed, weigh};

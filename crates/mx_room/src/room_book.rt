@@ -3,14 +3,17 @@ ghost use Rattle.std.specs.Prelude.{◌≡◌, ◌⊎◌, ◌+◌, ◌<◌, ◌^
 ghost use Rattle.std.specs.List.{AllByRecursion};
 ghost use Rattle.std.specs.Vec.{vec_capacity};
 ghost use Rattle.mx_core.specs.History.{placed_from};
+ghost use Rattle.mx_event.specs.Forms.{fits};
 ghost use Rattle.mx_event.specs.Lawful.{placed_event};
 ghost use Rattle.mx_event.specs.State.{membership_of};
 ghost use Rattle.mx_ids.specs.Memory.{refused_memory};
+ghost use Rattle.mx_ids.specs.User.{server_of};
 ghost use Rattle.mx_room.specs.declared.fault.RoomFault.TheVariants as faults;
 ghost use Rattle.mx_room.specs.Admitting.{admitted_by, answered, has_room, outcome, ready_block};
 ghost use Rattle.mx_room.specs.Books.{no_rooms, room_events, taken_in, MayStand, SameRooms};
 ghost use Rattle.mx_room.specs.Creating.{IsNew};
 ghost use Rattle.mx_room.specs.Held.{bare, events_in, IsRoomAt, Rises};
+ghost use Rattle.mx_room.specs.Keys.{txn_of};
 
 use crate::admitted::{Admitted, Ready};
 use crate::fault::RoomFault;
@@ -18,10 +21,11 @@ use crate::judged::judge;
 use crate::ledger::Ledger;
 use crate::rooms::{Room, index_of, make_all_ready, make_one_ready, take_all, take_all_in};
 use crate::txn_key::TxnKey;
-use crate::txns::{TxnIndex, key_of};
+use crate::txns::TxnIndex;
+use crate::weighed::Weighed;
 use mx_auth::AuthState;
 use mx_core::Prepared;
-use mx_event::{Draft, Event};
+use mx_event::Event;
 use mx_ids::{EventId, Memory, RoomId, Seq, Text, UserId};
 use std::alloc::Global;
 use std::marker::Model;
@@ -101,21 +105,32 @@ impl RoomBook {
     /// What becomes of a draft: an event that may be stored, and is ready, or the id of the event that the
     /// device sent before in the same transaction. A refusal leaves the rooms as they were. It costs a look for the room and
     /// for the transaction, the rules, and the copies of what the event sets.
-    pub fn admit(&mut self, draft: Draft) -> Result<Admitted, RoomFault>
+    pub fn admit(&mut self, draft: Weighed) -> Result<Admitted, RoomFault>
         ensures found { IfOk result (λ a. admitted_by self.old draft ≡ Ok a) }
         ensures refused { IfErr result (λ f. (f ≡ faults.Memory refused_memory) ⊎ (admitted_by self.old draft ≡ Err f)) }
         ensures same { SameRooms self.old self.new }
         ensures pending { IfOk result (λ a. self.new.pending ≡ ready_block a self.old.pending) }
     {
-        let event = draft.into_event();
-        match self.ready_one(&event)? {
+        let Weighed {
+            event,
+            key,
+            is_small,
+        } = draft;
+        match self.ready_one(&event, key, is_small)? {
             Some(id) => Ok(Admitted::Repeat(id)),
             None => Ok(Admitted::Ready(Ready { event })),
         }
     }
 
     /// Readies an event, or answers the id of the event that the device sent before in the same transaction.
-    fn ready_one(&mut self, event: &Event) -> Result<Option<EventId>, RoomFault>
+    fn ready_one(
+        &mut self,
+        event: &Event,
+        key: Option<TxnKey>,
+        is_small: bool,
+    ) -> Result<Option<EventId>, RoomFault>
+        requires keyed { txn_of key ≡ event.now.txn }
+        requires sized { is_small ≡ fits (server_of event.now.sender) event.now }
         ensures found { IfOk result (λ sent. outcome self.old event.now ≡ Ok (answered event.now sent)) }
         ensures refused { IfErr result (λ f. (f ≡ faults.Memory refused_memory) ⊎ (outcome self.old event.now ≡ Err f)) }
         ensures same { SameRooms self.old self.new }
@@ -124,11 +139,10 @@ impl RoomBook {
         let Some(index) = find_room(self.rooms.as_slice(), self.writer, &event.room) else {
             return Err(RoomFault::NoRoom);
         };
-        let key = key_of(self.alloc, &event.txn)?;
         if let Some(id) = self.txns.sent(&key) {
             return Ok(Some(id));
         }
-        judge(event, &self.rooms[index].state)?;
+        judge(event, is_small, &self.rooms[index].state)?;
         self.fresh = None;
         self.ledger = Ledger::without_block(&self.ledger);
         self.txns.settle()?;

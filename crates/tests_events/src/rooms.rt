@@ -14,7 +14,7 @@ use mx_core::Prepared;
 use mx_event::{Draft, Event, Txn};
 use mx_ids::{Copied, RoomId, Seq, Text};
 use mx_json::Json;
-use mx_room::{Admitted, RoomBook, RoomFault, book};
+use mx_room::{Admitted, RoomBook, RoomFault, Weighed, book, weigh};
 use std::alloc::Global;
 use std::mem;
 use std::process::Abort;
@@ -63,9 +63,14 @@ fn outcome(answer: &Result<Admitted, RoomFault>) -> i64 {
     }
 }
 
+/// The draft of a row, weighed.
+fn weighed(rt: &impl Abort, alloc: Global, row: &Json) -> Weighed {
+    weigh(alloc, draft(rt, alloc, row)).expect(rt, "memory")
+}
+
 /// What becomes of the draft of a case, which isn't stored.
 fn admitted(rt: &impl Abort, alloc: Global, rooms: &mut RoomBook, case: &Json) -> i64 {
-    let answer = rooms.admit(draft(rt, alloc, case));
+    let answer = rooms.admit(weighed(rt, alloc, case));
     let code = outcome(&answer);
     drop(answer);
     code
@@ -134,7 +139,7 @@ fn store(rt: &impl Abort, alloc: Global, rooms: &mut RoomBook, row: &str, positi
     requires below { AllByRecursion (λ (e : Event). e.id.at < position) (events_of rooms.old) }
     ensures { AllByRecursion (λ (e : Event). e.id.at < position + 1) (events_of rooms.new) }
 {
-    match rooms.admit(draft(rt, alloc, &json(rt, alloc, row))) {
+    match rooms.admit(weighed(rt, alloc, &json(rt, alloc, row))) {
         Ok(Admitted::Ready(ready)) => {
             let mut items = Seq::new(alloc);
             items.push(ready.event).expect(rt, "memory");
