@@ -11,7 +11,11 @@ use crate::shards::Writers;
 use crate::writing::write_noted;
 use mx_front::Pass;
 use std::alloc::Global;
-use std::sync::Wait;
+use std::hint::spin_loop;
+use std::sync::{Mutex, MutexGuard, Wait};
+
+/// How often a door is looked at before its lock is waited for asleep: for some 15 microseconds, in which a few writes end.
+const LOOKS: u32 = 300;
 
 impl<F: Folds> Writers<F> {
     /// Decides on a draft by the own stores of a writer, in its turn, and stores the items where it decides on some.
@@ -35,7 +39,7 @@ impl<F: Folds> Writers<F> {
         ensures loses { MayLose F.loses result }
         ensures told { WasTold (G.told gate.now) shard result }
     {
-        let door = self.doors[usize::from(shard)].lock(rt);
+        let door = locked(rt, &self.doors[usize::from(shard)]);
         let (owed, mut seat) = self.begin(rt, shard);
         let mut taken = self.take_shard(&mut seat, shard, owed.ticket);
         let mut watch = Watch::new(gate);
@@ -44,4 +48,15 @@ impl<F: Folds> Writers<F> {
         drop(door);
         answer
     }
+}
+
+/// Locks a door. Who finds it locked looks at it for a while, and then sleeps: to be put to sleep and woken takes longer than a write.
+fn locked<'a, R: Wait>(rt: &R, door: &'a Mutex<()>) -> MutexGuard<'a, ()> {
+    'looks: for _look in 0..LOOKS {
+        if let Some(guard) = door.try_lock() {
+            return guard;
+        }
+        spin_loop();
+    }
+    door.lock(rt)
 }
