@@ -18,8 +18,6 @@ use Rattle.mx_lanes.specs.Parts.{IsUpTo, Taken}
 use Rattle.mx_lanes.proofs.Orders.{slice_get-take}
 use Rattle.mx_event.specs.Shown.{position_of}
 use Rattle.mx_event.specs.declared.event.Event.{Event}
-use Rattle.mx_receipt.specs.declared.receipt.Receipt.{Receipt}
-use Rattle.mx_account.specs.declared.entry.Entry.{Entry}
 use Rattle.mx_snapshot.specs.declared.snapshot.Snapshot.{Snapshot}
 use Rattle.bench_reads.specs.InPlace.{Knows, in_place}
 
