@@ -341,7 +341,7 @@ fn gather_rooms<'a>(
 ) -> Result<Vec<(RoomId, &'a Event)>, Memory>
     ensures { IfOk result (λ made. map own_now made.items ≡ own_looked events.now.items rooms.now.entries) }
 {
-    let mut made = Vec::new(alloc);
+    let mut made = Vec::with_capacity(alloc, rooms.len())?;
     'rooms: for entry in rooms {
         push_room(&mut made, events, *entry.0, *entry.1)?;
     }

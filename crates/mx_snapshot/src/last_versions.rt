@@ -21,7 +21,7 @@ pub(crate) fn last_versions(alloc: Global, kinds: &Kinds, last: u64) -> Result<V
     ensures found { IfOk result (λ made. IsPermutation (kind_lasts last kinds.now.entries) made.items) }
     ensures rising { IfOk result (λ made. IsNonDecreasingBy itself made.items) }
 {
-    let mut found = Vec::new(alloc);
+    let mut found = Vec::with_capacity(alloc, key_count(kinds))?;
     'kinds: for entry in kinds {
         push_kind(&mut found, entry.1, last)?;
     }
@@ -36,10 +36,19 @@ pub(crate) fn last_keys(alloc: Global, keys: &Keys, last: u64) -> Result<Vec<u64
     ensures found { IfOk result (λ made. IsPermutation (key_lasts last keys.now.entries) made.items) }
     ensures rising { IfOk result (λ made. IsNonDecreasingBy itself made.items) }
 {
-    let mut found = Vec::new(alloc);
+    let mut found = Vec::with_capacity(alloc, keys.len())?;
     push_kind(&mut found, keys, last)?;
     found.sort_unstable();
     Ok(found)
+}
+
+/// How many keys there are of all types, for which room is made beforehand.
+fn key_count(kinds: &Kinds) -> usize {
+    let mut count = 0usize;
+    'kinds: for entry in kinds {
+        count = count.saturating_add(entry.1.len());
+    }
+    count
 }
 
 /// Puts the last positions of all keys of a type behind others.
